@@ -1,17 +1,15 @@
 -- What one byte more makes of a frame, in the words of the code.
-use Rattle.std.proofs.Common.{◌≡◌, ◌<◌, ℕ, ◌+◌, ◌∷◌, List, [], ◌++◌, length, take, slice_index, sym, ap, ◌∙◌, arith, append_assoc, append-nil, refl, subst, take_all}
-use Rattle.std.proofs.lemmas.List.{take_more}
+use Rattle.std.proofs.Common.{◌≡◌, ℕ, ◌+◌, ◌∷◌, List, [], ◌++◌, length, take, sym, ap, ◌∙◌, arith, append-nil, refl, subst, take_all}
 use Rattle.frame_codec.specs.declared.frames.Request.{Request}
 use Rattle.frame_codec.specs.declared.table.Table.TheVariants.{Requests}
 use Rattle.frame_codec.specs.declared.head.Head.{Head}
 use Rattle.frame_codec.specs.declared.head.HeadStep.TheVariants as heads
-use Rattle.frame_codec.specs.declared.decoder.Step.{Step}
 use Rattle.frame_codec.specs.declared.decoder.Step.TheVariants.{More, Whole, Bad}
 use Rattle.frame_codec.specs.Rows.{Field, Takes, digits, spelled, why_at, IsHeadPart, BeginsNoHead}
-use Rattle.frame_codec.specs.Grammar.{Grammar, text_of, IsFramed, IsFramePart, BeginsNoFrame, IsExact}
+use Rattle.frame_codec.specs.Grammar.{Grammar, text_of, IsFramed, IsFramePart, IsExact}
 use Rattle.frame_codec.specs.Frames.{requests, request_fields, IsScript}
 use Rattle.frame_codec.specs.Heads.{fields_of, numbers_of, bytes_of, IsBegun, IsWhole, HeadSteps}
-use Rattle.frame_codec.specs.Decoding.{Begun, IsAsking, StepsOf, Steps, FeedsOf, Reads}
+use Rattle.frame_codec.specs.Decoding.{Begun, IsAsking, StepsOf, Steps, Reads}
 use Rattle.frame_codec.proofs.Grammar.{framed-part, framed-whole, framed-none}
 use Rattle.frame_codec.proofs.Scripts.{script-none}
 use Rattle.frame_codec.proofs.Requests.{exact, no-string}
@@ -96,51 +94,9 @@ pub record IsFed (g : Grammar Request) (old mid : Begun) (bytes : List ℕ) (i :
   pub rest : mid.rest ≡ old.rest ++ take i bytes
   pub offset : mid.offset ≡ old.offset + i
 
-sofar : (old mid : Begun) (bytes : List ℕ) (i : ℕ) → i < length bytes → mid.rest ≡ old.rest ++ take i bytes → mid.rest ++ slice_index bytes i ∷ [] ≡ old.rest ++ take (i + 1) bytes
-sofar old mid bytes i less rest =
-    ap (λ (x : List ℕ). x ++ slice_index bytes i ∷ []) rest
-    ∙ (append_assoc old.rest (take i bytes) (slice_index bytes i ∷ []) ∙ ap (λ (x : List ℕ). old.rest ++ x) (sym (take_more bytes i 0 less)))
-
 pub feed-none : (h : Head) (old : Begun) (offset : ℕ) (bytes : List ℕ) → IsAsking h → begun h offset ≡ old → IsFed requests old old bytes 0
 feed-none h old offset bytes asking view = record {
   part = subst (λ (d : Begun). IsFramePart requests d.rest) view (frame-part requests h exact (asked-fields h asking.table) asking.head);
   rest = sym (append-nil old.rest);
   offset = omega arith;
 }
-
-pub feed-more : (g : Grammar Request) (old mid new : Begun) (bytes : List ℕ) (i : ℕ) (step : Step) → i < length bytes → IsFed g old mid bytes i →
-    StepsOf g mid (slice_index bytes i) step new → step ≡ More → new.offset ≡ mid.offset + 1 → IsFed g old new bytes (i + 1)
-feed-more g old mid new bytes i step less fed steps is offset =
-    let s = subst (λ (x : Step). StepsOf g mid (slice_index bytes i) x new) is steps in
-    record {
-      part = subst (IsFramePart g) (sym s.rest) s.part;
-      rest = s.rest ∙ sofar old mid bytes i less fed.rest;
-      offset = omega (arith, offset, fed.offset);
-    }
-
--- the byte of a piece at which its reading ends
-pub feed-end : (g : Grammar Request) (old mid new : Begun) (bytes : List ℕ) (i : ℕ) (step : Step) → i < length bytes → IsFed g old mid bytes i →
-    StepsOf g mid (slice_index bytes i) step new → (step ≡ More → ⊥) → FeedsOf g old bytes (i + 1) step new
-feed-end g old mid new bytes i More less fed step ended = absurd (ended refl)
-feed-end g old mid new bytes i (Whole r) less fed step ended = (
-  omega arith,
-  record { framed = step.framed; bytes = sym (sofar old mid bytes i less fed.rest) ∙ step.bytes; rest = step.rest },
-)
-feed-end g old mid new bytes i (Bad at why) less fed step ended = (
-  i,
-  refl,
-  step.0 ∙ fed.offset,
-  record {
-    part = subst (IsFramePart g) fed.rest step.1.part;
-    none = subst (BeginsNoFrame g) (sofar old mid bytes i less fed.rest) step.1.none;
-    number = step.1.number ∙ ap (λ (x : List ℕ). why_at g.fields (length x)) fed.rest;
-    rest = step.1.rest ∙ fed.rest;
-  },
-)
-
--- all bytes of a piece
-pub feed-all : (g : Grammar Request) (old new : Begun) (bytes : List ℕ) → IsFed g old new bytes (length bytes) → FeedsOf g old bytes (length bytes) More new
-feed-all g old new bytes fed =
-    let all : old.rest ++ take (length bytes) bytes ≡ old.rest ++ bytes = ap (λ (x : List ℕ). old.rest ++ x) (take_all (length bytes) bytes (omega arith)) in
-    let rest : new.rest ≡ old.rest ++ bytes = fed.rest ∙ all in
-    (refl, record { part = subst (IsFramePart g) rest fed.part; rest = rest })

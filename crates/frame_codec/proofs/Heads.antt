@@ -83,22 +83,6 @@ sound-at : (table : Table) (i : ℕ) → i < length (fields_of table) → IsSoun
 sound-at table i less =
     (sound-behind (take i (fields_of table)) (field_at table i ∷ drop (i + 1) (fields_of table)) (subst (AllByRecursion IsSound) (round table i less) (sounds table))).0
 
-some-field : (table : Table) → 0 < length (fields_of table)
-some-field Requests = lit< tt
-some-field Replies = lit< tt
-
--- no byte of a head has come
-pub begun-first : (table : Table) (numbers : List ℕ) → length (fields_of table) ≤ length numbers →
-    IsBegun (record { table = table; numbers = numbers; index = 0; number = 0; have = 0 })
-begun-first table numbers long =
-    let sound = sound-at table 0 (some-field table) in
-    record {
-      head = record { long = long; taken = refl; fits = lit< tt };
-      index = some-field table;
-      have = sound.wide;
-      reaches = sound-reaches (field_at table 0) [] sound;
-    }
-
 -- a byte within a field
 pub step-more : (h : Head) (byte left : ℕ) → IsBegun h → byte < 256 → left ≡ (field_at h.table h.index).width - 1 - h.have → 0 < left →
     Reaches ((field_at h.table h.index).spans (numbers_of h)) left (h.number * 256 + byte) →

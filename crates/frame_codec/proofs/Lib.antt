@@ -11,3 +11,5 @@ pub mod Heads
 pub mod Decoding
 pub mod Reading
 pub mod Writing
+pub mod ReplyDecoding
+pub mod ReplyReading

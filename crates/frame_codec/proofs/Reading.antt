@@ -1,12 +1,12 @@
 -- What a feed adds to a script.
-use Rattle.std.proofs.Common.{◌≡◌, ◌≤◌, ◌<◌, ℕ, ◌+◌, ◌∷◌, List, [], ◌++◌, length, take, drop, get_or, sym, ap, ◌∙◌, arith, length-append, append_assoc, subst, length-take, take-append-drop}
+use Rattle.std.proofs.Common.{refl, lit<, append-nil, ◌≡◌, ◌≤◌, ◌<◌, ℕ, ◌+◌, ◌∷◌, List, [], ◌++◌, length, take, drop, get_or, sym, ap, ◌∙◌, arith, length-append, append_assoc, subst, length-take, take-append-drop}
 use Rattle.std.proofs.lemmas.List.{take_more}
 use Rattle.frame_codec.specs.Rows.{why_at}
-use Rattle.frame_codec.specs.Frames.{Asked, request_fields, IsPart, BeginsNone, IsScript, IsBadAt}
+use Rattle.frame_codec.specs.Frames.{requests, Asked, request_fields, IsPart, BeginsNone, IsScript, IsBadAt}
 use Rattle.frame_codec.proofs.RequestLaws.{script-goes, script-frame, script-bad, bad-more}
 use Rattle.frame_codec.specs.declared.decoder.Step.{Step}
 use Rattle.frame_codec.specs.declared.decoder.Step.TheVariants.{More, Whole, Bad}
-use Rattle.frame_codec.specs.Decoding.{Begun, Feeds, Reads, ReadsOn}
+use Rattle.frame_codec.specs.Decoding.{Begun, LeavesFrames, Steps, Feeds, Reads, ReadsOn}
 
 read-bad : (b : List ℕ) (rs : List Asked) (rest bytes : List ℕ) (last : ℕ) → last < length bytes → IsScript b rs rest → IsPart (rest ++ take last bytes) →
     BeginsNone (rest ++ take (last + 1) bytes) → IsBadAt (b ++ bytes) rs (length b + last) (why_at request_fields (length (rest ++ take last bytes)))
@@ -47,3 +47,15 @@ read-on b rs bytes taken old (Bad at why) new r within offset step =
     let place : length b + last ≡ at = omega (arith, step.2, r.offset) in
     subst (λ (w : ℕ). IsBadAt (b ++ bytes) rs at w) (sym step.3.number)
     (subst (λ (o : ℕ). IsBadAt (b ++ bytes) rs o (why_at request_fields (length (old.rest ++ take last bytes)))) place bad)
+
+-- a push is a feed of one byte
+pub step-feeds : (old : Begun) (byte : ℕ) (step : Step) (new : Begun) → Steps old byte step new → Feeds old (byte ∷ []) 1 step new
+step-feeds old byte More new step = (refl, step)
+step-feeds old byte (Whole r) new step = (lit< tt, step)
+step-feeds old byte (Bad at why) new step =
+    let same : old.rest ≡ old.rest ++ [] = sym (append-nil old.rest) in (
+      0,
+      refl,
+      omega (arith, step.0),
+      subst (λ (x : List ℕ). LeavesFrames requests x (old.rest ++ byte ∷ []) why new) same step.1,
+    )

@@ -94,3 +94,40 @@ asks-generate a framed =
       just 0 a.head.strength t.2.2.2.2.2.2.1,
       just 0 a.head.len t.2.2.2.2.2.2.2.1,
     )
+
+-- what is asked by a Generate
+pub generate-framed : (id count : ℕ) → id < 2 ^ 32 → count < 2 ^ 32 →
+    IsFramed requests (record { head = record { op = 2; flags = 0; node = 0; id = id; count = count; strength = 0; len = 0 }; string = [] })
+generate-framed id count id-fits count-fits = record {
+  taken = (
+    lit< tt,
+    inl (lit≤ tt, lit≤ tt),
+    (
+      lit< tt,
+      inl (lit≤ tt, lit≤ tt),
+      (
+        lit< tt,
+        inl (lit≤ tt, lit≤ tt),
+        (
+          lit< tt,
+          inl (lit≤ tt, lit≤ tt),
+          (
+            id-fits,
+            inl (omega arith, omega arith),
+            (
+              count-fits,
+              inl (omega arith, omega arith),
+              (
+                lit< tt,
+                inl (lit≤ tt, lit≤ tt),
+                (lit< tt, inl (lit≤ tt, lit≤ tt), refl),
+              ),
+            ),
+          ),
+        ),
+      ),
+    ),
+  );
+  same = refl;
+  string = refl;
+}

@@ -74,9 +74,6 @@ why-here (g ∷ done) f later have less =
     let rest : g.width + size_of done + have - g.width ≡ size_of done + have = omega arith in
     rw past (rw rest (why-here done f later have less))
 
-pub sound-size : (f : Field) (later : List Field) → AllByRecursion IsSound (f ∷ later) → 0 < size_of (f ∷ later)
-sound-size f later all = omega (arith, all.0.wide)
-
 -- the fields behind some are sound as well
 pub sound-behind : (done later : List Field) → AllByRecursion IsSound (done ++ later) → AllByRecursion IsSound later
 sound-behind [] later all = all

@@ -4,3 +4,4 @@ pub mod Grammar
 pub mod Frames
 pub mod Heads
 pub mod Decoding
+pub mod Replying

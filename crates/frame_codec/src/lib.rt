@@ -7,6 +7,7 @@
 //! - `table`: the rows of the grammar, as the code reads them;
 //! - `head`: a head that is begun, by that table;
 //! - `decoder`: request frames out of a stream of bytes;
+//! - `reply_decoder`: reply frames out of a stream of bytes;
 //! - `encode`: frames as bytes;
 //! - `laws`: what holds of all frames, as functions that do nothing.
 #![tactic(auto)]
@@ -16,9 +17,13 @@ mod encode;
 mod frames;
 mod head;
 pub mod laws;
+mod reply_decoder;
 mod table;
+#[cfg(test)]
+mod tests;
 
 pub use decoder::{Decoder, Step};
-pub use encode::encode_reply;
+pub use encode::{encode_reply, encode_request};
 pub use frames::{ReplyHead, Request};
+pub use reply_decoder::{ReplyDecoder, ReplyStep};
 pub use table::Span;
