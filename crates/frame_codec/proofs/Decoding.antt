@@ -6,11 +6,11 @@ use Rattle.frame_codec.specs.declared.head.Head.{Head}
 use Rattle.frame_codec.specs.declared.head.HeadStep.TheVariants as heads
 use Rattle.frame_codec.specs.declared.decoder.Step.TheVariants.{More, Whole, Bad}
 use Rattle.frame_codec.specs.Rows.{Field, Takes, digits, spelled, why_at, IsHeadPart, BeginsNoHead}
-use Rattle.frame_codec.specs.Grammar.{Grammar, text_of, IsFramed, IsFramePart, IsExact}
+use Rattle.frame_codec.specs.Grammar.{Grammar, text_of, IsFramed, IsFramePart}
 use Rattle.frame_codec.specs.Frames.{requests, request_fields, IsScript}
 use Rattle.frame_codec.specs.Heads.{fields_of, numbers_of, bytes_of, IsBegun, IsWhole, HeadSteps}
 use Rattle.frame_codec.specs.Decoding.{Begun, IsAsking, StepsOf, Steps, Reads}
-use Rattle.frame_codec.proofs.Grammar.{framed-part, framed-whole, framed-none}
+use Rattle.frame_codec.proofs.Grammar.{IsExact, framed-part, framed-whole, framed-none}
 use Rattle.frame_codec.proofs.Scripts.{script-none}
 use Rattle.frame_codec.proofs.Requests.{exact, no-string}
 use Rattle.frame_codec.proofs.Heads.{begun-part}

@@ -5,9 +5,9 @@ use Rattle.std.proofs.lemmas.Nat.{shr_below, le-div, div-mul-add, mul-le}
 use Rattle.std.proofs.lemmas.Bool.{cases_lt}
 use Rattle.std.proofs.Math.Nat.{div-mul-le_self, div-one}
 use Rattle.frame_codec.specs.declared.table.Span.{Span}
-use Rattle.frame_codec.specs.Rows.{Field, IsInOne, digits, Takes, spelled, size_of, AreProper, IsSound, Reaches, IsHeadPart, BeginsNoHead}
+use Rattle.frame_codec.specs.Rows.{Field, IsInOne, digits, Takes, spelled, Reaches, IsHeadPart, BeginsNoHead}
 use Rattle.frame_codec.proofs.Digits.{fronts, length-digits, digits-one, digits-split}
-use Rattle.frame_codec.proofs.Rows.{takes-join, takes-split, spelled-join, length-spelled, spelled-one, proper-fits, filled, sound-behind}
+use Rattle.frame_codec.proofs.Rows.{size_of, AreProper, IsSound, takes-join, takes-split, spelled-join, length-spelled, spelled-one, proper-fits, filled, sound-behind}
 use Rattle.std.proofs.Math.Nat.{div-eq_of_lt}
 
 div-mono : (a b k : ℕ) → a ≤ b → a / 2 ^ k ≤ b / 2 ^ k

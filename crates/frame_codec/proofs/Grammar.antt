@@ -2,9 +2,13 @@
 use Rattle.std.proofs.Common.{◌≡◌, ◌<◌, ℕ, ◌-◌, ◌∷◌, List, [], ◌++◌, length, replicate, sym, ap, ◌∙◌, arith, length-append, append_assoc, append-nil, refl, subst}
 use Rattle.std.proofs.lemmas.List.{length-replicate}
 use Rattle.frame_codec.specs.Rows.{Takes, spelled, IsHeadPart, BeginsNoHead}
-use Rattle.frame_codec.specs.Scripts.{IsFree}
-use Rattle.frame_codec.specs.Grammar.{Grammar, Framed, text_of, IsFramed, IsFrameOf, IsFramePart, BeginsNoFrame, IsExact}
+use Rattle.frame_codec.specs.Grammar.{Grammar, Framed, text_of, IsFramed, IsFrameOf, IsFramePart, BeginsNoFrame}
 use Rattle.frame_codec.proofs.Rows.{spelled-one}
+use Rattle.frame_codec.proofs.Scripts.{IsFree}
+
+-- a row of numbers that the fields take is that of its head
+abbrev pub IsExact : {R : Type 0} → Grammar R → Type 0
+IsExact g = (ns : List ℕ) → Takes g.fields [] ns → g.numbers (g.head ns) ≡ ns
 
 same_framed : {R : Type 0} (x y : Framed R) → x.head ≡ y.head → x.string ≡ y.string → x ≡ y
 same_framed {R = R} x y e f =

@@ -3,9 +3,9 @@ use Rattle.std.proofs.Common.{◌≡◌, ◌≤◌, ◌<◌, ℕ, suc, ◌+◌, 
 use Rattle.std.specs.List.{AllByRecursion}
 use Rattle.std.proofs.lemmas.List.{drop_more, take_more, take_more_set}
 use Rattle.std.proofs.lemmas.Nat.{div-mul-add, mod-mul-add, mul-add-lt}
-use Rattle.frame_codec.specs.Rows.{Field, Takes, digits, spelled, size_of, why_at, IsSound, Reaches, IsHeadPart, BeginsNoHead}
+use Rattle.frame_codec.specs.Rows.{Field, Takes, digits, spelled, why_at, Reaches, IsHeadPart, BeginsNoHead}
 use Rattle.frame_codec.specs.Frames.{field}
-use Rattle.frame_codec.proofs.Rows.{takes-join, spelled-join, length-spelled, why-here, sound-behind}
+use Rattle.frame_codec.proofs.Rows.{size_of, IsSound, takes-join, spelled-join, length-spelled, why-here, sound-behind}
 use Rattle.frame_codec.proofs.Fronts.{byte-part, byte-none, byte-last, sound-reaches}
 use Rattle.frame_codec.proofs.Digits.{length-digits}
 use Rattle.frame_codec.proofs.Requests.{sound as sound-requests}

@@ -10,6 +10,7 @@ pub mod Reaching
 pub mod Heads
 pub mod Decoding
 pub mod Reading
+pub mod Lengths
 pub mod Writing
 pub mod ReplyDecoding
 pub mod ReplyReading

@@ -3,12 +3,13 @@ use Rattle.std.proofs.Common.{◌≡◌, ◌≤◌, ◌<◌, ◌⊎◌, inl, inr
 use Rattle.std.specs.List.{AllByRecursion}
 use Rattle.std.proofs.lemmas.Bool.{ne_eqb}
 use Rattle.frame_codec.specs.declared.table.Span.{Span}
-use Rattle.frame_codec.specs.Rows.{IsInOne, IsSound}
-use Rattle.frame_codec.specs.Scripts.{IsFree}
-use Rattle.frame_codec.specs.Grammar.{text_of, IsFramed, IsExact}
+use Rattle.frame_codec.specs.Rows.{IsInOne}
+use Rattle.frame_codec.specs.Grammar.{text_of, IsFramed}
 use Rattle.frame_codec.specs.Frames.{IsReplyHead, from_to, zero_only, code_of, replied_op, codes_served, unless_malformed, unless_done, payloads, reply_fields, replies}
-use Rattle.frame_codec.proofs.Grammar.{framed-free}
+use Rattle.frame_codec.proofs.Grammar.{IsExact, framed-free}
 use Rattle.frame_codec.proofs.Requests.{IsGood, either, within, always, just}
+use Rattle.frame_codec.proofs.Rows.{IsSound}
+use Rattle.frame_codec.proofs.Scripts.{IsFree}
 
 none : (width : ℕ) → IsGood width zero_only
 none width = within width 0 0 (lit≤ tt) (pow_pos (8 * width))

@@ -2,11 +2,12 @@
 use Rattle.std.proofs.Common.{◌≡◌, ◌≤◌, ◌<◌, inl, inr, ℕ, ◌∷◌, ◌^◌, ◌*◌, slice_index, List, [], sym, arith, refl, true, false, Bool, if◌then◌else◌, lit<, lit≤}
 use Rattle.std.specs.List.{AllByRecursion}
 use Rattle.frame_codec.specs.declared.table.Span.{Span}
-use Rattle.frame_codec.specs.Rows.{IsInOne, AreProper, Takes, IsSound}
-use Rattle.frame_codec.specs.Scripts.{IsFree}
-use Rattle.frame_codec.specs.Grammar.{text_of, IsFramed, IsExact}
+use Rattle.frame_codec.specs.Rows.{IsInOne, Takes}
+use Rattle.frame_codec.specs.Grammar.{text_of, IsFramed}
 use Rattle.frame_codec.specs.Frames.{Asked, from_to, request_fields, requests}
-use Rattle.frame_codec.proofs.Grammar.{framed-free}
+use Rattle.frame_codec.proofs.Grammar.{IsExact, framed-free}
+use Rattle.frame_codec.proofs.Rows.{AreProper, IsSound}
+use Rattle.frame_codec.proofs.Scripts.{IsFree}
 
 -- spans that lie within the width and are not empty
 pub record IsGood (width : ℕ) (spans : List Span) : Type 0 where

@@ -1,10 +1,26 @@
 -- Laws of fields in a row: their bytes and their numbers.
-use Rattle.std.proofs.Common.{◌≡◌, ◌<◌, inl, inr, ℕ, ◌+◌, ◌*◌, ◌^◌, ◌∷◌, List, [], ◌++◌, length, sym, ap, ◌∙◌, arith, length-append, append_assoc, refl, subst, nat_lt, false, ◌-◌, le-ltb, lt-ltb}
+use Rattle.std.proofs.Common.{◌≤◌, ◌≡◌, ◌<◌, inl, inr, ℕ, ◌+◌, ◌*◌, ◌^◌, ◌∷◌, List, [], ◌++◌, length, sym, ap, ◌∙◌, arith, length-append, append_assoc, refl, subst, nat_lt, false, ◌-◌, le-ltb, lt-ltb}
 use Rattle.std.specs.List.{AllByRecursion}
 use Rattle.std.proofs.lemmas.List.{append-nil}
 use Rattle.frame_codec.specs.declared.table.Span.{Span}
-use Rattle.frame_codec.specs.Rows.{Field, IsInOne, digits, Takes, spelled, size_of, AreProper, IsSound, why_at}
+use Rattle.frame_codec.specs.Rows.{Field, IsInOne, digits, Takes, spelled, why_at}
 use Rattle.frame_codec.proofs.Digits.{fronts, length-digits, digits-one}
+
+-- how many bytes the fields have
+abbrev pub size_of : List Field → ℕ
+size_of [] = 0
+size_of (f ∷ fields) = f.width + size_of fields
+
+-- the spans lie within the width
+abbrev pub AreProper : ℕ → List Span → Type 0
+AreProper width [] = Unit {0}
+AreProper width (s ∷ spans) = (s.low ≤ s.high) × (s.high < 2 ^ (8 * width)) × AreProper width spans
+
+-- whatever came before it, the field may have some number, and its numbers fit its width
+pub record IsSound (f : Field) : Type 0 where
+  pub wide : 1 ≤ f.width
+  pub proper : (before : List ℕ) → AreProper f.width (f.spans before)
+  pub some : (before : List ℕ) → (n : ℕ) × IsInOne (f.spans before) n
 
 pub takes-join : (done later : List Field) (before front back : List ℕ) → Takes done before front → Takes later (before ++ front) back →
     Takes (done ++ later) before (front ++ back)

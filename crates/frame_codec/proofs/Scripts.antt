@@ -1,7 +1,11 @@
 -- Laws of texts in a row, over any texts of which none begins another.
 use Rattle.std.proofs.Common.{◌≡◌, ◌⊎◌, inl, inr, ℕ, ◌∷◌, List, [], ◌++◌, length, sym, ap, ◌∙◌, arith, append_assoc, append-nil, refl, flat_map}
 use Rattle.std.specs.List.{AllByRecursion}
-use Rattle.frame_codec.specs.Scripts.{IsPartOf, BeginsNoneOf, Splits, IsFree}
+use Rattle.frame_codec.specs.Scripts.{IsPartOf, BeginsNoneOf, Splits}
+
+-- No text begins another, and no two values have one text. On this alone the laws of texts in a row rest.
+abbrev pub IsFree : {X : Type 0} → (X → List ℕ) → (X → Type 0) → Type 0
+IsFree {X} text Served = (x y : X) (more : List ℕ) → Served x → Served y → text x ++ more ≡ text y → (x ≡ y) × (more ≡ [])
 
 tails : (x y : ℕ) (xs ys : List ℕ) → x ∷ xs ≡ y ∷ ys → (x ≡ y) × (xs ≡ ys)
 tails x y xs ys e = (cc, cc)

@@ -42,7 +42,3 @@ BeginsNoFrame g b = BeginsNoneOf (text_of g) (IsFramed g) b
 -- b is the frames of these in a row and then a part of a frame
 abbrev pub IsScriptOf : {R : Type 0} → Grammar R → List ℕ → List (Framed R) → List ℕ → Type 0
 IsScriptOf g b xs rest = Splits (text_of g) (IsFramed g) b xs rest
-
--- a row of numbers that the fields take is that of its head
-abbrev pub IsExact : {R : Type 0} → Grammar R → Type 0
-IsExact g = (ns : List ℕ) → Takes g.fields [] ns → g.numbers (g.head ns) ≡ ns

@@ -1,6 +1,6 @@
 -- Fields in a row, each of a fixed count of bytes, high byte first, and in spans that the numbers before it give.
 -- This project's own.
-use Rattle.std.specs.Prelude.{◌≡◌, ◌≤◌, ◌<◌, ◌⊎◌, ℕ, suc, zero, ◌+◌, ◌*◌, ◌/◌, ◌%◌, ◌^◌, ◌-◌, List, [], ◌∷◌, ◌++◌, length, if◌then◌else◌, nat_lt}
+use Rattle.std.specs.Prelude.{◌≡◌, ◌≤◌, ◌<◌, ◌⊎◌, ℕ, suc, zero, ◌*◌, ◌/◌, ◌%◌, ◌^◌, ◌-◌, List, [], ◌∷◌, ◌++◌, length, if◌then◌else◌, nat_lt}
 use Rattle.frame_codec.specs.declared.table.Span.{Span}
 
 -- a field: how many bytes, the number of a bad byte in it, and its spans, given the numbers of the fields before it
@@ -31,26 +31,10 @@ spelled [] ns = []
 spelled (f ∷ fields) [] = []
 spelled (f ∷ fields) (n ∷ ns) = digits f.width n ++ spelled fields ns
 
--- how many bytes the fields have
-abbrev pub size_of : List Field → ℕ
-size_of [] = 0
-size_of (f ∷ fields) = f.width + size_of fields
-
 -- the number of a bad byte at the place; a byte behind the fields is never bad
 abbrev pub why_at : List Field → ℕ → ℕ
 why_at [] place = 0
 why_at (f ∷ fields) place = if nat_lt place f.width then f.why else why_at fields (place - f.width)
-
--- the spans lie within the width
-abbrev pub AreProper : ℕ → List Span → Type 0
-AreProper width [] = Unit {0}
-AreProper width (s ∷ spans) = (s.low ≤ s.high) × (s.high < 2 ^ (8 * width)) × AreProper width spans
-
--- whatever came before it, the field may have some number, and its numbers fit its width
-pub record IsSound (f : Field) : Type 0 where
-  pub wide : 1 ≤ f.width
-  pub proper : (before : List ℕ) → AreProper f.width (f.spans before)
-  pub some : (before : List ℕ) → (n : ℕ) × IsInOne (f.spans before) n
 
 -- n is some number in one of the spans, without its last bytes, which are so many
 abbrev pub Reaches : List Span → ℕ → ℕ → Type 0

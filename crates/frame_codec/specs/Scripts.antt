@@ -16,7 +16,3 @@ pub record Splits {X : Type 0} (text : X → List ℕ) (Served : X → Type 0) (
   pub served : AllByRecursion Served xs
   pub bytes : b ≡ flat_map text xs ++ rest
   pub part : IsPartOf text Served rest
-
--- No text begins another, and no two values have one text. On this alone the laws of texts in a row rest.
-abbrev pub IsFree : {X : Type 0} → (X → List ℕ) → (X → Type 0) → Type 0
-IsFree {X} text Served = (x y : X) (more : List ℕ) → Served x → Served y → text x ++ more ≡ text y → (x ≡ y) × (more ≡ [])

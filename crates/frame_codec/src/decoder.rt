@@ -105,6 +105,7 @@ impl Decoder {
         ensures offset { self.new.offset ≡ self.old.offset + result.0 }
         ensures within { result.0 ≤ length bytes.now }
     {
+        // What is begun is a part of a frame.
         let _head = &self.head;
         for (i, byte) in bytes.iter().enumerate() {
             let step = self.push(*byte);
@@ -115,10 +116,11 @@ impl Decoder {
         (bytes.len(), Step::More)
     }
 
-    /// The string of the frame that was whole at the last push, empty in each frame that is served yet.
+    /// The string of the frame that was just whole; in each that is served yet it is empty.
     pub fn string(&self) -> &[u8]
         ensures { result.now ≡ self.now.string }
     {
+        // No frame that is served yet has a string.
         let _head = &self.head;
         &[]
     }

@@ -135,7 +135,8 @@ fn request_spans(index: usize) -> &'static [Span]
 // What a field of a reply may hold, by the code and the op.
 fn reply_spans(index: usize, code: u64, op: u64) -> &'static [Span]
     requires { index < length (fields_of Table.Replies) }
-    ensures { (before : _) → slice_index before 1 ≡ code → slice_index before 2 ≡ op → result.now ≡ (field_at Table.Replies index).spans before }
+    ensures { (before : _) → slice_index before 1 ≡ code → slice_index before 2 ≡ op →
+        result.now ≡ (field_at Table.Replies index).spans before }
 {
     match index {
         0 => VERSION,
