@@ -21,12 +21,6 @@ pub enum Step {
     Bad { offset: u64, why: u8 },
 }
 
-fn is_more(step: &Step) -> bool
-    ensures { IsTrue result ↔ (step.now ≡ Step.More) }
-{
-    matches!(step, Step::More)
-}
-
 // The request with these numbers.
 fn request_of(numbers: &[u64; 8]) -> Request
     requires { Takes requests.fields [] (take (length requests.fields) numbers.now) }
@@ -109,7 +103,7 @@ impl Decoder {
         let _head = &self.head;
         for (i, byte) in bytes.iter().enumerate() {
             let step = self.push(*byte);
-            if !is_more(&step) {
+            if step != Step::More {
                 return (i + 1, step);
             }
         }

@@ -22,7 +22,7 @@ pub struct Request {
 /// The head of a reply frame.
 #[derive(Clone, Copy, Debug, PartialEq, Eq)]
 pub struct ReplyHead {
-    /// 0 Done, 1 to 14 a refusal, 255 Malformed.
+    /// 0 Done, 1 to 8 and 10 to 14 a refusal, 255 Malformed.
     pub code: u8,
     /// The op of the request.
     pub op: u8,

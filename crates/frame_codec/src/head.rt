@@ -7,7 +7,7 @@ ghost use Rattle.frame_codec.specs.Heads.{bytes_of, IsBegun, HeadSteps};
 use crate::table::{Span, Table, count, spans, why, width};
 
 /// A head that is begun: the numbers of the fields that are whole, and the bytes of the next field so far, as a number.
-#[derive(Clone, Copy, Drop)]
+#[derive(Drop)]
 pub struct Head {
     pub table: Table,
     pub numbers: [u64; 8],

@@ -12,7 +12,7 @@ pub struct Span {
 }
 
 /// Which frames are read.
-#[derive(Clone, Copy, Debug, PartialEq, Eq)]
+#[derive(Clone, Copy)]
 pub enum Table {
     Requests,
     Replies,
