@@ -1,6 +1,6 @@
 -- What contracts see of a source and a sink in memory, and how a call changes them.
 -- This project's own.
-use Rattle.std.specs.Prelude.{ℕ, ◌-◌, List, ◌++◌, length, take, drop}
+use Rattle.std.specs.Prelude.{ℕ, ◌-◌, List, ◌++◌, length, drop}
 use Rattle.rbg_bytes.specs.Streams.{one_more}
 
 -- the bytes to come, the most that one read gives, the reads that fail, the reads so far and the faults so far

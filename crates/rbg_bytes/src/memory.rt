@@ -83,9 +83,9 @@ impl ByteSource for MemSource {
         ensures ok { IfOk result (λ n. self.new ≡ after_read self.old n) }
         ensures err { OnErr result (self.new ≡ after_failed_read self.old) }
     {
-        let call = self.calls;
-        self.calls = call.saturating_add(1);
-        if self.fail.contains(&call) {
+        let read = self.calls;
+        self.calls = read.saturating_add(1);
+        if self.fail.contains(&read) {
             self.faults = self.faults.saturating_add(1);
             return Err(Failed);
         }
@@ -158,15 +158,15 @@ impl ByteSink for MemSink {
         ensures full { (¬ Contains self.old.fail self.old.calls) → self.old.room < length bytes.now →
             self.new ≡ after_failed_write self.old (take self.old.room bytes.now) }
     {
-        let call = self.calls;
-        self.calls = call.saturating_add(1);
-        if self.fail.contains(&call) {
+        let write = self.calls;
+        self.calls = write.saturating_add(1);
+        if self.fail.contains(&write) {
             self.faults = self.faults.saturating_add(1);
             return Err(Failed);
         }
-        let count = put(&mut self.room, self.at, bytes);
-        self.at += count;
-        if count < bytes.len() {
+        let taken = put(&mut self.room, self.at, bytes);
+        self.at += taken;
+        if taken < bytes.len() {
             self.faults = self.faults.saturating_add(1);
             return Err(Failed);
         }
