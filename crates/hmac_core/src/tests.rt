@@ -1,0 +1,41 @@
+// Published values, which say that the definitions are the standard's.
+use crate::{Hash, Mac};
+use std::alloc::{AllocError, Global};
+use std::test::Fail;
+
+// The bytes in hexadecimal.
+fn hex_of(alloc: Global, bytes: &[u8]) -> Result<String, AllocError> {
+    let mut text = String::new(alloc);
+    for byte in bytes {
+        let digits = format!(in alloc; "{byte:02x}")?;
+        text.push_str(digits.as_str())?;
+    }
+    Ok(text)
+}
+
+#[test]
+fn gives_published_values(rt: HostRuntime) -> Result<(), Fail> {
+    // RFC 4231, test case 1.
+    let mut mac = Mac::new(Hash::Sha256, &[0x0b; 20]);
+    mac.update(b"Hi ");
+    mac.update(b"There");
+    assert_eq!(rt;
+        hex_of(rt.alloc(), mac.finish().as_slice())?.as_str(),
+        "b0344c61d8db38535ca8afceaf0bf12b881dc200c9833da726e9376c2e32cff7"
+    );
+    // A key of 129 bytes, one more than a block. Computed by another implementation.
+    let mut key = [0u8; 129];
+    for i in 0..129u8 {
+        key[i as usize] = i;
+    }
+    let keyed = Mac::new(Hash::Sha512, &key);
+    for _ in 0..2 {
+        let mut mac = keyed.copy();
+        mac.update(b"abc");
+        assert_eq!(rt;
+            hex_of(rt.alloc(), mac.finish().as_slice())?.as_str(),
+            "767a0a8da500b0f4b08ac06b7535b29cb7f4449beee8e8094e8cb6e8fa7c51049f9964e868da0504100c0ffb79a8f6542d8ed75b096472bd667ece4522d8cd3f"
+        );
+    }
+    Ok(())
+}

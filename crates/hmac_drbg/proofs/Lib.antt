@@ -1,0 +1,4 @@
+pub mod Lengths
+pub mod Updates
+mod Updating
+mod Filling

@@ -1,0 +1,2 @@
+pub mod HmacDrbg
+pub mod State

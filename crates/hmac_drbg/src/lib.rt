@@ -1,0 +1,13 @@
+//! HMAC_DRBG (SP 800-90A Rev. 1, 10.1.2) over the six hash functions of `hmac_core`.
+//!
+//! - `state`: the working state with its reseed counter, and its calls;
+//! - `keyed`: HMACs under a key that was set up once.
+#![tactic(auto)]
+
+mod keyed;
+mod state;
+#[cfg(test)]
+mod tests;
+
+pub use hmac_core::Hash;
+pub use state::{HmacDrbg, ReseedRequired};
