@@ -7,7 +7,7 @@ ghost use Rattle.rbg_bytes.specs.Streams.{HasCause};
 
 use rbg_bytes::Failed;
 
-/// Where the samples of a noise source come from (SP 800-90B 2.2), a byte each: a device, a file, or a list in memory.
+/// Where the samples of a noise source come from (SP 800-90B 2.2.1), a byte each: a device, a file, or a list in memory.
 pub trait Samples: Drop {
     /// The samples that are still to come, where the source tells them.
     ghost told: { Self → Option (List ℕ) };
