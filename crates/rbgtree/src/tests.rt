@@ -109,7 +109,9 @@ fn check(
 }
 
 const FIRST: &str = "01020000000000010000002000000000";
-const FIRST_REPLY: &str = "010002000000000100000000000000000000000000000000000000200ffb80875a3e9022a4941a3fa1b0d3611df14e1cf651a73ce9229b9f3ad56887";
+
+const FIRST_REPLY: &str =
+    "010002000000000100000000000000000000000000000000000000200ffb80875a3e9022a4941a3fa1b0d3611df14e1cf651a73ce9229b9f3ad56887";
 
 #[test]
 fn replies_are_those_of_the_standard(rt: HostRuntime) -> Result<(), Fail> {
@@ -125,7 +127,8 @@ fn replies_are_those_of_the_standard(rt: HostRuntime) -> Result<(), Fail> {
     )?;
     // Two frames, in one piece and a byte at a time.
     let two = "0102000000000001000000200000000001020000000000020000002100000000";
-    let replies = "010002000000000100000000000000000000000000000000000000200ffb80875a3e9022a4941a3fa1b0d3611df14e1cf651a73ce9229b9f3ad568870100020000000002000000000000000000000000000000000000002108767656d3e9669eb668d1e1f5b80d27bb1aee12ff719eeb83e3dce006718c162b";
+    let replies =
+        "010002000000000100000000000000000000000000000000000000200ffb80875a3e9022a4941a3fa1b0d3611df14e1cf651a73ce9229b9f3ad568870100020000000002000000000000000000000000000000000000002108767656d3e9669eb668d1e1f5b80d27bb1aee12ff719eeb83e3dce006718c162b";
     check(&rt, two, &PLAIN, Status::Done, replies)?;
     check(
         &rt,
@@ -160,7 +163,10 @@ fn the_longest_request_and_one_byte_more(rt: HostRuntime) -> Result<(), Fail> {
         "01020200000000050000000000010001000000000001000000000000",
     )?;
     assert_eq!(rt; head, head_wanted.as_slice());
-    assert_eq!(rt; Sha256::digest(payload).as_slice(), digest_wanted.as_slice());
+    assert_eq!(rt;
+        Sha256::digest(payload).as_slice(),
+        digest_wanted.as_slice()
+    );
     assert_eq!(rt; refusal, refusal_wanted.as_slice());
     Ok(())
 }
@@ -170,9 +176,21 @@ fn cut_and_malformed_input(rt: HostRuntime) -> Result<(), Fail> {
     let cut = "010200000000000100000020000000";
     check(&rt, cut, &PLAIN, Status::Cut { offset: 15 }, "")?;
     let cases = [
-        ("0103", 1, "01ff0000000000000000000000000001000000000000000900000000"),
-        ("010202", 2, "01ff0000000000000000000000000002000000000000000900000000"),
-        ("02", 0, "01ff0000000000000000000000000000000000000000000900000000"),
+        (
+            "0103",
+            1,
+            "01ff0000000000000000000000000001000000000000000900000000",
+        ),
+        (
+            "010202",
+            2,
+            "01ff0000000000000000000000000002000000000000000900000000",
+        ),
+        (
+            "02",
+            0,
+            "01ff0000000000000000000000000000000000000000000900000000",
+        ),
         (
             "01020000000000010000002000000005",
             15,
@@ -180,7 +198,13 @@ fn cut_and_malformed_input(rt: HostRuntime) -> Result<(), Fail> {
         ),
     ];
     for (input, offset, written) in cases {
-        check(&rt, input, &PLAIN, Status::Malformed { offset, why: 9 }, written)?;
+        check(
+            &rt,
+            input,
+            &PLAIN,
+            Status::Malformed { offset, why: 9 },
+            written,
+        )?;
     }
     Ok(())
 }
@@ -273,13 +297,21 @@ fn each_status_has_its_number_and_line(rt: HostRuntime) -> Result<(), Fail> {
             1,
             "usage: rbgtree seed FILE, answer CONFIG, check CONFIG, replay hmac FILE, replay ctr FILE, load CONFIG N SEED, load CONFIG N SEED WORKERS, serve CONFIG ADDR WORKERS CONNS\n",
         ),
-        (Status::Malformed { offset: 2, why: 3 }, 3, "malformed frame at 2, why 3\n"),
+        (
+            Status::Malformed { offset: 2, why: 3 },
+            3,
+            "malformed frame at 2, why 3\n",
+        ),
         (Status::Cut { offset: 16 }, 3, "input cut at 16\n"),
         (Status::ReadFault { count: 1 }, 4, "read fault 1\n"),
         (Status::WriteFault { count: 2 }, 5, "write fault 2\n"),
         (Status::OpenFault { count: 3 }, 6, "open fault 3\n"),
         (Status::Memory, 7, "out of memory\n"),
-        (Status::Quota { frames: 1_048_576 }, 9, "quota of 1048576 frames\n"),
+        (
+            Status::Quota { frames: 1_048_576 },
+            9,
+            "quota of 1048576 frames\n",
+        ),
         (short, 10, "seed of node 0 has 47 of 48 bytes\n"),
     ];
     for (status, number, line) in cases {
