@@ -1,7 +1,7 @@
 -- How long the parts of a state and gathered bytes are.
-use Rattle.std.proofs.Common.{◌≡◌, ℕ, zero, suc, ◌*◌, ◌∷◌, List, [], ◌++◌, length, sym, length-append, refl, zero-mul, suc-mul}
+use Rattle.std.proofs.Common.{◌≡◌, ℕ, zero, suc, ◌*◌, List, length, sym, length-append, refl, zero-mul, suc-mul}
 use Rattle.hmac_core.specs.declared.hash.Hash.{Hash}
-use Rattle.hmac_core.specs.Hmac.{hmac, out_len}
+use Rattle.hmac_core.specs.Hmac.{out_len}
 use Rattle.hmac_core.proofs.Lengths.{length-hmac}
 use Rattle.hmac_drbg.specs.HmacDrbg.{turned, gathered}
 

@@ -1,8 +1,8 @@
 -- The update by whether there is provided data, and gathered bytes by one more block.
-use Rattle.std.proofs.Common.{◌≡◌, ◌≤◌, ◌<◌, ℕ, ◌+◌, ◌*◌, ◌∷◌, List, [], ◌++◌, length, arith, refl, add-one}
+use Rattle.std.proofs.Common.{◌≡◌, ◌<◌, ℕ, ◌+◌, ◌∷◌, List, [], ◌++◌, length, arith, refl, add-one}
 use Rattle.hmac_core.specs.declared.hash.Hash.{Hash}
-use Rattle.hmac_core.specs.Hmac.{hmac, out_len}
-use Rattle.hmac_drbg.specs.HmacDrbg.{Working, update, half_update, turned, gathered, with_additional, blocks_for}
+use Rattle.hmac_core.specs.Hmac.{hmac}
+use Rattle.hmac_drbg.specs.HmacDrbg.{Working, update, half_update, turned, gathered, with_additional}
 
 pub update-none : (h : Hash) (provided : List ℕ) (s : Working) → length provided ≡ 0 →
     update h provided s ≡ half_update h 0 provided s

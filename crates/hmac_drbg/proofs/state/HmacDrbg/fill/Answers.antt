@@ -1,4 +1,4 @@
-use Rattle.std.proofs.Common.{◌≡◌, ◌≤◌, ◌*◌, sym, rules, zero-mul, refl, length}
+use Rattle.std.proofs.Common.{◌≤◌, ◌*◌, rules, zero-mul, refl, length}
 use Rattle.std.proofs.Math.Seq.{take-nil}
 use Rattle.hmac_drbg.proofs.Lengths.{length-turned}
 use Rattle.hmac_drbg.proofs.Updates.{turned-none, gathered-none}

@@ -1,0 +1,2 @@
+pub mod Drbg
+pub mod State

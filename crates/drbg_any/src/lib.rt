@@ -1,0 +1,11 @@
+//! One value for each kind of DRBG that is served, with its reseed interval and fresh generation (SP 800-90A Rev. 1, 9).
+//!
+//! - `drbg`: the value and its calls.
+#![tactic(auto)]
+
+mod drbg;
+#[cfg(test)]
+mod tests;
+
+pub use drbg::Drbg;
+pub use hmac_drbg::ReseedRequired;

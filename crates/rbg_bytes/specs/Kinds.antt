@@ -1,0 +1,11 @@
+-- What each kind of DRBG is worth.
+-- SP 800-90A Rev. 1, table 2: the highest supported strength.
+use Rattle.std.specs.Prelude.{ℕ}
+use Rattle.rbg_bytes.specs.declared.kind.Kind.{Kind}
+use Rattle.rbg_bytes.specs.declared.kind.Kind.TheVariants.{HmacSha256, HmacSha384, HmacSha512}
+
+-- the security strength in bits
+abbrev pub strength : Kind → ℕ
+strength HmacSha256 = 256
+strength HmacSha384 = 256
+strength HmacSha512 = 256

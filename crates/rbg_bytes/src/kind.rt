@@ -1,0 +1,25 @@
+// The kinds of DRBG that are served.
+ghost use Rattle.std.specs.Prelude.{◌≡◌, ◌≤◌};
+ghost use Rattle.rbg_bytes.specs.Kinds.{strength};
+
+/// A kind of DRBG (SP 800-90A Rev. 1, 10): HMAC_DRBG over a hash function.
+#[derive(Clone, Copy, Debug, PartialEq, Eq)]
+pub enum Kind {
+    HmacSha256,
+    HmacSha384,
+    HmacSha512,
+}
+
+impl Kind {
+    /// The security strength in bits, which is the highest that the mechanism supports (SP 800-90A Rev. 1, table 2).
+    pub fn strength(self) -> u16
+        ensures bits { result ≡ strength self }
+        ensures range { (128 ≤ result) × (result ≤ 256) }
+    {
+        match self {
+            Kind::HmacSha256 => 256,
+            Kind::HmacSha384 => 256,
+            Kind::HmacSha512 => 256,
+        }
+    }
+}
