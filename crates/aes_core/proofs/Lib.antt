@@ -1,6 +1,7 @@
 pub mod Bytes
 pub mod Examples
 pub mod Expansion
+pub mod Inverses
 pub mod Lanes
 pub mod Lengths
 pub mod Mixing

@@ -1,5 +1,5 @@
 -- The field GF(2^8) of AES and its S-box. A byte is a polynomial over GF(2), bit i standing for x ^ i.
--- FIPS 197, 4.1 to 4.4 and 5.1.1.
+-- FIPS 197, 4.1, 4.2 and 5.1.1.
 use Rattle.std.specs.Prelude.{ℕ, zero, suc, ◌+◌, ◌*◌, ◌%◌, ◌^◌, ◌==◌, find, unwrap_or, bit_xor}
 use Rattle.std.specs.List.{range_with_len}
 use Rattle.std.specs.Int.{bit_at}
@@ -14,11 +14,11 @@ abbrev pub remainder : ℕ → ℕ → ℕ
 remainder p zero = p
 remainder p (suc n) = remainder (bit_xor p (bit_at p (n + 8) * (0x11b * 2 ^ n))) n
 
--- the product in the field, written with a dot there (4.2)
+-- the product in the field (4.2)
 unfoldable pub times : ℕ → ℕ → ℕ
 times a b = remainder (polynomial_product a b 8) 7
 
--- the inverse in the field: the least y whose product with x is 1, and 0 for 0, which has none (4.4, 5.1.1)
+-- the inverse in the field: the least y whose product with x is 1, and 0 for 0, which has none (5.1.1, step 1)
 unfoldable pub inverse : ℕ → ℕ
 inverse x = unwrap_or (find (λ y. times x y == 1) (range_with_len 0 256)) 0
 

@@ -4,7 +4,7 @@
 //! - `keys`: the expansion of a key;
 //! - `rounds` and `inversion`: the steps of a round on the sixteen bytes of a state side by side;
 //! - `tables`: the entries of their look-ups, and the round constants;
-//! - `laws`: the standard's published examples, of the definition alone.
+//! - `laws`: the standard's published examples and the inverses, of the definition alone.
 //!
 //! There is no decryption: the generators that stand on this crate never ask for one. No table is read at a place in memory
 //! that depends on the key or the block; the code is written so, and no contract says it.
@@ -18,7 +18,7 @@ mod rounds;
 mod tables;
 
 pub use cipher::{Aes, BadKeyLength};
-pub use laws::meets_examples;
+pub use laws::{inverts_bytes, meets_examples};
 
 #[cfg(test)]
 mod tests;

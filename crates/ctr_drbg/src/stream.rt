@@ -28,8 +28,12 @@ fn put_block(out: &mut [u8], at: usize, block: &[u8; 16])
     requires { at ≤ length out.old }
     ensures { take (at + 16) out.new ≡ take at out.old ++ take (length out.old - at) block.now }
 {
-    let count = block.len().min(out.len() - at);
-    out[at..at + count].copy_from_slice(&block[..count]);
+    let room = out.len() - at;
+    if room < 16 {
+        out[at..].copy_from_slice(&block[..room]);
+    } else {
+        out[at..at + 16].copy_from_slice(block);
+    }
 }
 
 // Fills the bytes with the encryptions of V + 1, V + 2 and so on, and gives the last V.
