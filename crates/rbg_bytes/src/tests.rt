@@ -1,7 +1,7 @@
 // What a source and a sink in memory give and take, called as a generic caller does.
 ghost use Rattle.std.specs.Prelude.{◌<◌, length};
 
-use crate::{ByteSink, ByteSource, Failed, Fixed, Line, MemSink, MemSource};
+use crate::{ByteSink, ByteSource, Failed, Fixed, Line, MemSink, MemSource, Name};
 use std::test::Fail;
 
 fn read_one<I: ByteSource>(source: &mut I, buf: &mut [u8]) -> (Result<usize, Failed>, u64)
@@ -45,6 +45,8 @@ fn writes_fail_where_listed_and_where_room_ends(rt: HostRuntime) -> Result<(), F
 fn bytes_and_digits_are_kept(rt: HostRuntime) -> Result<(), Fail> {
     let fixed = Fixed::<4>::of(&[1, 2, 3]);
     assert_eq!(rt; fixed.as_slice(), [1u8, 2, 3].as_slice());
+    assert_eq!(rt; Name::of("").as_str(), "");
+    assert_eq!(rt; Name::of("data/größe.bin").as_str(), "data/größe.bin");
     let mut line = Line::new();
     line.text("cut at ");
     line.number(18_446_744_073_709_551_615);

@@ -22,7 +22,7 @@ impl<R> Reading<R> {
     }
 }
 
-impl<R: Read> ByteSource for Reading<R> {
+impl<R: Read + Drop> ByteSource for Reading<R> {
     ghost left = { λ s. R.remaining s.inner };
 
     ghost faults = { λ s. s.faults };
@@ -57,7 +57,7 @@ impl<W> Writing<W> {
     }
 }
 
-impl<W: Write> ByteSink for Writing<W> {
+impl<W: Write + Drop> ByteSink for Writing<W> {
     ghost out = { λ _. None };
 
     ghost faults = { λ s. s.faults };

@@ -55,3 +55,6 @@ fn main(rt: HostRuntime) -> ExitCode {
     let _ = status.line(&mut Writing::new(rt.stderr()));
     ExitCode::from(status.number())
 }
+
+#[cfg(test)]
+mod tests;

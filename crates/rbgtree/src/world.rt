@@ -8,7 +8,7 @@ ghost use Rattle.rbgtree.specs.Files.{Entries, ReadsFile};
 use rbg_bytes::Failed;
 
 /// The files that the program reads.
-pub trait World {
+pub trait World: Drop {
     /// The files with their names, where the world tells them.
     ghost files: { Self → Option Entries };
 

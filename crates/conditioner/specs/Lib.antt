@@ -1,0 +1,2 @@
+pub mod Conditioned
+pub mod Holds

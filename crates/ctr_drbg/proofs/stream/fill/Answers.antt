@@ -1,0 +1,19 @@
+use Rattle.std.proofs.Common.{◌≡◌, ◌≤◌, ◌+◌, ◌*◌, length, ap, sym, ◌∙◌, rules, refl}
+use Rattle.std.proofs.Math.Seq.{take-nil}
+use Rattle.aes_core.specs.Aes.{aes}
+use Rattle.ctr_drbg.specs.CtrDrbg.{counted, plus_one}
+use Rattle.ctr_drbg.proofs.Rows.{counted-none, counted-more, fill_more, stream-none}
+use Rattle.ctr_drbg.proofs.stream.fill.Goals as goal
+
+pub places-init : goal.places-init
+places-init c = (sym (counted-none _), rw (stream-none, take-nil) refl)
+
+pub places-preserved : goal.places-preserved
+places-preserved c =
+    let key = c.args.aes.now in
+    let v = c.args.v in
+    let i = c.places.i in
+    let value : c.next-value.result ≡ counted v (i + 1) = c.next-value.ensures ∙ (ap plus_one c.places.invariant.0 ∙ sym (counted-more v i)) in
+    let block : c.encrypted.result ≡ aes key (counted v (i + 1)) = c.encrypted.ensures ∙ ap (aes key) value in
+    let fits : 16 * c.places.i ≤ length c.places.out = search rules in
+    (value, fill_more key v c.places.out c.put_block.new.out i fits c.put_block.auto.out c.places.invariant.1 (rw block at c.put_block.ensures))

@@ -1,0 +1,4 @@
+pub mod CtrDrbg
+pub mod State
+pub mod Lengths
+pub mod Refusals

@@ -1,0 +1,6 @@
+pub mod Runs
+pub mod Counting
+pub mod Alarms
+pub mod Longer
+pub mod Stepping
+pub mod Meanings

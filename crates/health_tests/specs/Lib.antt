@@ -1,0 +1,4 @@
+pub mod Cutoffs
+pub mod Windows
+pub mod Numbers
+pub mod Stands
