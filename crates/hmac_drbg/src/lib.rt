@@ -1,10 +1,10 @@
 //! HMAC_DRBG (SP 800-90A Rev. 1, 10.1.2) over the six hash functions of `hmac_core`.
 //!
 //! - `state`: the working state with its reseed counter, and its calls;
-//! - `keyed`: HMACs under a key that was set up once.
+//! - `parts`: provided data in three parts, and blocks put in their places.
 #![tactic(auto)]
 
-mod keyed;
+mod parts;
 mod state;
 #[cfg(test)]
 mod tests;

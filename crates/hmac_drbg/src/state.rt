@@ -1,11 +1,12 @@
-// The working state with its reseed counter, and its calls.
+// The working state with its reseed counter, and its calls. Departs from the standard's form: a key is set up once for all
+// the HMACs under it in one call.
 ghost use Rattle.std.specs.Prelude.{◌≡◌, ◌<◌, ◌≤◌, ◌+◌, ◌-◌, ◌^◌, ◌↔◌, ◌++◌, [], length, take, OnOk, OnErr, IsErr, IfErr};
 ghost use Rattle.hmac_core.specs.Hmac.{hmac, out_len};
 ghost use Rattle.hmac_core.specs.Holds.{HoldsText};
 ghost use Rattle.hmac_drbg.specs.HmacDrbg.{half_update, update, instantiated, reseeded, with_additional, generated, after_generate, turned, gathered, blocks_for};
 ghost use Rattle.hmac_drbg.specs.State.{working, IsWellFormed};
 
-use crate::keyed::{is_any, mac_of_parts, put_block};
+use crate::parts::{is_any, mac_of_parts, put_block};
 use hmac_core::{Hash, Mac};
 use rbg_bytes::Fixed;
 

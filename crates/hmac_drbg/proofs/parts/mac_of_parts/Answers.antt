@@ -1,5 +1,5 @@
 use Rattle.std.proofs.Common.{[]}
-use Rattle.hmac_drbg.proofs.keyed.mac_of_parts.Goals as goal
+use Rattle.hmac_drbg.proofs.parts.mac_of_parts.Goals as goal
 
 pub returns : goal.returns
 returns c hash key h =

@@ -1,4 +1,4 @@
-// HMACs under a key that was set up once. Departs from the standard's form, which begins each HMAC with its key.
+// Provided data in three parts, which is nowhere joined, and blocks put in their places.
 ghost use Rattle.std.specs.Prelude.{◌≡◌, ◌≤◌, ◌<◌, ◌+◌, ◌-◌, ◌↔◌, ◌∷◌, ◌++◌, [], ℕ, List, length, take, IsTrue};
 ghost use Rattle.hmac_core.specs.declared.hash.Hash.{Hash};
 ghost use Rattle.hmac_core.specs.Hmac.{hmac};
@@ -7,7 +7,7 @@ ghost use Rattle.hmac_core.specs.Holds.{HoldsText};
 use hmac_core::Mac;
 use rbg_bytes::Fixed;
 
-// HMAC of a value, a byte and three parts of provided data. It is the key's last use.
+// HMAC of a value, a byte and provided data, under a key that is set up and not used again.
 pub fn mac_of_parts(
     mut keyed: Mac,
     value: &[u8],
