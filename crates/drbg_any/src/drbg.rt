@@ -5,6 +5,8 @@ ghost use Rattle.drbg_any.specs.Drbg.{instantiated, reseeded, generated, after_g
 ghost use Rattle.drbg_any.specs.State.{kind_of, working, counter_of, IsWellFormed};
 
 use crate::ReseedRequired;
+use crate::with_df::{begin, generate, reseed};
+use ctr_drbg::{CtrDrbg, KeyLen};
 use hmac_core::Hash;
 use hmac_drbg::HmacDrbg;
 use rbg_bytes::Kind;
@@ -14,13 +16,17 @@ use rbg_bytes::Kind;
 #[derive(Drop)]
 pub enum Drbg {
     Hmac(HmacDrbg),
+    Ctr(CtrDrbg),
 }
 
 impl Drbg {
     /// The state that the entropy, the nonce and the personalization string give, with the counter at 1 (SP 800-90A Rev. 1,
-    /// 9.1). The lengths are free; the standard asks for as much entropy as the kind's strength.
+    /// 9.1). Each string has at most 65,536 bytes; the standard asks for as much entropy as the kind's strength.
     #[tactic(auto, unfolding(crate::specs::Drbg::instantiated))]
     pub fn instantiate(kind: Kind, entropy: &[u8], nonce: &[u8], pers: &[u8]) -> Drbg
+        requires entropy { length entropy.now ≤ 65536 }
+        requires nonce { length nonce.now ≤ 65536 }
+        requires pers { length pers.now ≤ 65536 }
         ensures state { working result ≡ instantiated kind entropy.now nonce.now pers.now }
         ensures kind { kind_of result ≡ kind }
         ensures counter { counter_of result ≡ 1 }
@@ -45,14 +51,19 @@ impl Drbg {
                 nonce,
                 pers,
             )),
+            Kind::CtrAes128 => Drbg::Ctr(begin(KeyLen::K16, entropy, nonce, pers)),
+            Kind::CtrAes192 => Drbg::Ctr(begin(KeyLen::K24, entropy, nonce, pers)),
+            Kind::CtrAes256 => Drbg::Ctr(begin(KeyLen::K32, entropy, nonce, pers)),
         }
     }
 
     /// Mixes entropy and additional input, which may be empty, into the state, and sets the counter to 1 (SP 800-90A Rev. 1,
-    /// 9.2). The lengths are free.
+    /// 9.2). Each string has at most 65,536 bytes.
     #[tactic(auto, unfolding(crate::specs::Drbg::reseeded))]
     pub fn reseed(&mut self, entropy: &[u8], add: &[u8])
-        requires { IsWellFormed self.old }
+        requires formed { IsWellFormed self.old }
+        requires entropy { length entropy.now ≤ 65536 }
+        requires add { length add.now ≤ 65536 }
         ensures state { working self.new ≡ reseeded (kind_of self.old) entropy.now add.now (working self.old) }
         ensures kind { kind_of self.new ≡ kind_of self.old }
         ensures counter { counter_of self.new ≡ 1 }
@@ -60,12 +71,13 @@ impl Drbg {
     {
         match self {
             Drbg::Hmac(drbg) => drbg.reseed(entropy, add),
+            Drbg::Ctr(drbg) => reseed(drbg, entropy, add),
         }
     }
 
     /// Fills `out` with the next bytes, after mixing in the additional input where there is any, and counts one generate
-    /// (SP 800-90A Rev. 1, 9.3). It is refused where the counter is above the interval, and then nothing changes. The standard
-    /// allows at most 65,536 bytes and an interval of at most 2^48; the interval's bound here keeps the counter's sum in range.
+    /// (SP 800-90A Rev. 1, 9.3). It is refused where the counter is above the interval, and then nothing changes. `out` and
+    /// the additional input have at most 65,536 bytes, and the interval is 1 to 2^48.
     #[tactic(auto, unfolding(crate::specs::Drbg::generated, crate::specs::Drbg::after_generate))]
     pub fn generate(
         &mut self,
@@ -74,7 +86,9 @@ impl Drbg {
         out: &mut [u8],
     ) -> Result<(), ReseedRequired>
         requires formed { IsWellFormed self.old }
-        requires interval { interval < 2 ^ 64 - 1 }
+        requires interval { (1 ≤ interval) × (interval ≤ 2 ^ 48) }
+        requires bound { length out.old ≤ 65536 }
+        requires add { length add.now ≤ 65536 }
         ensures refused { IsErr result ↔ (interval < counter_of self.old) }
         ensures err { OnErr result ((self.new ≡ self.old) × (out.new ≡ out.old)) }
         ensures counted { IfErr result (λ e. e.counter ≡ counter_of self.old) }
@@ -86,13 +100,17 @@ impl Drbg {
     {
         match self {
             Drbg::Hmac(drbg) => drbg.generate(add, interval, out),
+            Drbg::Ctr(drbg) => generate(drbg, add, interval, out),
         }
     }
 
     /// Reseeds with the entropy and the additional input, and then fills `out` by a generate with an empty additional input,
     /// which can't be refused (SP 800-90A Rev. 1, 9.3.1, steps 7 and 8). So the additional input is used once.
     pub fn generate_fresh(&mut self, entropy: &[u8], add: &[u8], out: &mut [u8])
-        requires { IsWellFormed self.old }
+        requires formed { IsWellFormed self.old }
+        requires entropy { length entropy.now ≤ 65536 }
+        requires add { length add.now ≤ 65536 }
+        requires bound { length out.old ≤ 65536 }
         ensures bytes { let fresh = reseeded (kind_of self.old) entropy.now add.now (working self.old) in
             out.new ≡ generated (kind_of self.old) [] (length out.old) fresh }
         ensures state { let fresh = reseeded (kind_of self.old) entropy.now add.now (working self.old) in
@@ -114,6 +132,7 @@ impl Drbg {
     {
         match self {
             Drbg::Hmac(drbg) => drbg.counter,
+            Drbg::Ctr(drbg) => drbg.counter,
         }
     }
 

@@ -2,6 +2,7 @@
 use crate::{Drbg, ReseedRequired};
 use rbg_bytes::Kind;
 use std::alloc::{AllocError, Global};
+use std::process::Abort;
 use std::test::Fail;
 
 // The bytes in hexadecimal.
@@ -23,7 +24,7 @@ fn counting_from(first: u8) -> [u8; 32] {
     bytes
 }
 
-const ROWS: [(Kind, &str); 3] = [
+const ROWS: [(Kind, &str); 6] = [
     (
         Kind::HmacSha256,
         "02e66211e4fc8c8bdfcf891e04a46a5ee3e53f6bcc9c699c48e5e0604c76ce19ec9522aad2cd3759",
@@ -35,6 +36,18 @@ const ROWS: [(Kind, &str); 3] = [
     (
         Kind::HmacSha512,
         "2a94a659a6b8012c5a69ffccee71501d95e030697c24055be0d3f334866a621263d5d58d44d0707e",
+    ),
+    (
+        Kind::CtrAes128,
+        "4fa75cd84332b9dde7da70b88aba8a1c240af4ba0e3575671e486015d1754cba4b342f6ad426a372",
+    ),
+    (
+        Kind::CtrAes192,
+        "59539b034bbbfbdf86651c099794cc76105f0538ea59f2a47d9432d1bdb8894046edbb7fd84fc4a8",
+    ),
+    (
+        Kind::CtrAes256,
+        "c0b8d994ef2b209b3947177acc134f98bb895c898047826ab5c8b7b1df4369809993497a8cb01e9a",
     ),
 ];
 
@@ -58,7 +71,12 @@ fn generates_afresh_as_another_implementation(rt: HostRuntime) -> Result<(), Fai
 
 #[test]
 fn is_due_above_the_interval_alone(rt: HostRuntime) -> Result<(), Fail> {
-    let mut drbg = Drbg::instantiate(Kind::HmacSha512, &counting_from(0), &counting_from(32), &[]);
+    check_due(&rt, Kind::HmacSha512)?;
+    check_due(&rt, Kind::CtrAes256)
+}
+
+fn check_due(rt: &impl Abort, kind: Kind) -> Result<(), Fail> {
+    let mut drbg = Drbg::instantiate(kind, &counting_from(0), &counting_from(32), &[]);
     let mut bytes = [0u8; 16];
     assert_eq!(rt; (drbg.counter(), drbg.due(1)), (1, false));
     assert_eq!(rt; drbg.generate(&[0xaa], 1, &mut bytes), Ok(()));

@@ -2,12 +2,15 @@
 ghost use Rattle.std.specs.Prelude.{◌≡◌, ◌≤◌};
 ghost use Rattle.rbg_bytes.specs.Kinds.{strength};
 
-/// A kind of DRBG (SP 800-90A Rev. 1, 10): HMAC_DRBG over a hash function.
+/// A kind of DRBG (SP 800-90A Rev. 1, 10): HMAC_DRBG over a hash function, or CTR_DRBG with AES and the derivation function.
 #[derive(Clone, Copy, Debug, PartialEq, Eq)]
 pub enum Kind {
     HmacSha256,
     HmacSha384,
     HmacSha512,
+    CtrAes128,
+    CtrAes192,
+    CtrAes256,
 }
 
 impl Kind {
@@ -20,6 +23,9 @@ impl Kind {
             Kind::HmacSha256 => 256,
             Kind::HmacSha384 => 256,
             Kind::HmacSha512 => 256,
+            Kind::CtrAes128 => 128,
+            Kind::CtrAes192 => 192,
+            Kind::CtrAes256 => 256,
         }
     }
 }
