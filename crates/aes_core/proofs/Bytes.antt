@@ -1,9 +1,9 @@
 -- Facts of all 256 bytes, each found by computing once.
-use Rattle.std.proofs.Common.{◌≡◌, ℕ, zero, suc, ◌-◌, ◌*◌, ◌/◌, ◌%◌, ◌^◌, ◌<◌, Bool, true, false, ◌&&◌, T, eqb, get_or, refl, subst, inl, inr, arith, eq-zero-or-pos, eqb-true}
+use Rattle.std.proofs.Common.{◌≡◌, ℕ, zero, suc, ◌-◌, ◌<◌, Bool, true, false, ◌&&◌, T, eqb, get_or, refl, subst, inl, inr, arith, eq-zero-or-pos, eqb-true}
 use Rattle.std.specs.Prelude.{bit_xor}
 use lib.Ieee.Fits.{and_l, and_r}
-use Rattle.aes_core.specs.Field.{times, inverse, sub_byte}
-use Rattle.aes_core.specs.declared.tables.TheConstants.{RCON, SBOX}
+use Rattle.aes_core.specs.Field.{times}
+use Rattle.aes_core.specs.declared.tables.TheConstants.{RCON}
 use Rattle.aes_core.specs.Aes.{power_of_x}
 
 -- the test holds of each number below n
@@ -19,21 +19,13 @@ every_below p (suc n) h i l =
       | inr g ↦ every_below p n (and_r (p n) _ h) i (omega arith)
     ]
 
-holds : (b : Bool) → T b → b ≡ true
+pub holds : (b : Bool) → T b → b ≡ true
 holds true t = refl
 holds false t = absurd t
 
 -- two functions that agree below 256
 same_below : (f g : ℕ → ℕ) → T (all_below (λ b. eqb (f b) (g b)) 256) → (b : ℕ) → b < 256 → f b ≡ g b
 same_below f g all b below = eqb-true (f b) (g b) (holds (eqb (f b) (g b)) (every_below (λ x. eqb (f x) (g x)) 256 all b below))
-
-pub SBOX_is : (b : ℕ) → b < 256 → get_or SBOX b 0 ≡ sub_byte b
-unfolding times inverse sub_byte
-SBOX_is b below = same_below (λ x. get_or SBOX x 0) sub_byte tt b below
-
-pub doubled_is : (b : ℕ) → b < 256 → bit_xor (b * 2 ^ 1 % 2 ^ 8) (b / 2 ^ 7 * 27) ≡ times 2 b
-unfolding times
-doubled_is b below = same_below (λ x. bit_xor (x * 2 ^ 1 % 2 ^ 8) (x / 2 ^ 7 * 27)) (times 2) tt b below
 
 pub tripled_is : (b : ℕ) → b < 256 → bit_xor (times 2 b) b ≡ times 3 b
 unfolding times

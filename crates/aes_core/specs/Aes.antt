@@ -34,10 +34,6 @@ mixed_byte a r =
     bit_xor (bit_xor (bit_xor (times (circulant r 0) (slice_index a 0)) (times (circulant r 1) (slice_index a 1)))
     (times (circulant r 2) (slice_index a 2))) (times (circulant r 3) (slice_index a 3))
 
--- the matrix times a column
-unfoldable pub mix_column : List ℕ → List ℕ
-mix_column a = map (mixed_byte a) (range_with_len 0 4)
-
 -- MixColumns: each column is multiplied by the matrix (5.1.3)
 unfoldable pub mix_columns : List ℕ → List ℕ
 mix_columns s = state (λ r c. mixed_byte (column s c) r)

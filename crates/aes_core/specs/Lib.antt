@@ -1,4 +1,5 @@
 pub mod Field
 pub mod Aes
 pub mod Keys
+pub mod Inversion
 pub mod Examples

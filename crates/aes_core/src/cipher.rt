@@ -1,7 +1,9 @@
 // A key that is set up for use.
+use crate::inversion::substituted;
 use crate::keys;
-use crate::rounds::{mixed_columns, substituted, with_key};
+use crate::rounds::{mixed, shifted, with_key};
 use std::marker::Model;
+use std::simd::prelude::*;
 
 /// The key has another length than 16, 24 or 32 bytes. `len` is its length.
 #[derive(Clone, Copy, Debug, PartialEq, Eq)]
@@ -53,10 +55,10 @@ impl Aes {
         ensures value { block.new ≡ aes self.now block.old }
         ensures key { IsKeyLength (length self.now) }
     {
-        let mut s = with_key(&self.keys, 0, *block);
+        let mut s = with_key(&self.keys, 0, u8x16::from_array(*block));
         'rounds: for n in 1..self.rounds {
-            s = with_key(&self.keys, n, mixed_columns(substituted(s)));
+            s = with_key(&self.keys, n, mixed(shifted(substituted(s))));
         }
-        *block = with_key(&self.keys, self.rounds, substituted(s));
+        *block = with_key(&self.keys, self.rounds, shifted(substituted(s))).to_array();
     }
 }

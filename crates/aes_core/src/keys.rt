@@ -1,69 +1,97 @@
 // The expanded key.
 ghost use Rattle.std.specs.Prelude.{◌≡◌, ◌<◌, ◌≤◌, ◌+◌, ◌-◌, ◌*◌, ◌/◌, ◌++◌, take, length};
-ghost use Rattle.aes_core.specs.Aes.{expanded, next_word, rounds, sub_word, turned_word, word};
+ghost use Rattle.aes_core.specs.Aes.{expanded, next_word, rot_word, rounds, sub_word, turned_word, word, xor_words};
 ghost use Rattle.aes_core.specs.Keys.{IsKeyLength};
 
-use crate::rounds::sub_byte;
+use crate::inversion::substituted;
 use crate::tables::RCON;
+use std::simd::prelude::*;
 
 // The bytes of an expanded key of fourteen rounds.
-pub(crate) const KEYS_LEN: usize = 240;
+const KEYS_LEN: usize = 240;
 
-// SubWord.
-fn sub_word(t: [u8; 4]) -> [u8; 4]
-    ensures { result ≡ sub_word t }
+// Word `i`.
+#[inline(always)]
+fn word(keys: &[u8; 240], i: usize) -> u8x4
+    requires { i < 60 }
+    ensures { result ≡ word keys.now i }
 {
-    [
-        sub_byte(t[0]),
-        sub_byte(t[1]),
-        sub_byte(t[2]),
-        sub_byte(t[3]),
-    ]
+    u8x4::from_slice(&keys[4 * i..])
 }
 
-// What the word before word `i` becomes, in the expansion of a key of so many words.
-fn turned_word(words: usize, i: usize, t: [u8; 4]) -> [u8; 4]
-    requires words { (4 ≤ words) × (words ≤ 8) }
-    requires place { (words ≤ i) × (i < 4 * (words + 7)) }
-    ensures { result ≡ turned_word words i t }
+// RotWord.
+#[inline(always)]
+fn rotated(t: u8x4) -> u8x4
+    ensures { result ≡ rot_word t }
 {
-    if i % words == 0 {
-        let [a, b, c, d] = sub_word([t[1], t[2], t[3], t[0]]);
-        [a ^ RCON[i / words - 1], b, c, d]
-    } else if words == 8 && i % 8 == 4 {
-        sub_word(t)
-    } else {
-        t
+    t.swizzle([1, 2, 3, 0])
+}
+
+// SubWord, in four of sixteen lanes.
+#[inline(always)]
+fn sub_word(t: u8x4) -> u8x4
+    ensures { result ≡ sub_word t }
+{
+    substituted(t.swizzle([0, 1, 2, 3, 0, 1, 2, 3, 0, 1, 2, 3, 0, 1, 2, 3])).extract::<0, 4>()
+}
+
+// The sum of two words.
+#[inline(always)]
+fn xor_words(s: u8x4, t: u8x4) -> u8x4
+    ensures { result ≡ xor_words s t }
+{
+    s ^ t
+}
+
+// How many whole keys of so many words there are in `i` words, without a division at run time.
+fn whole_keys(words: usize, i: usize) -> usize
+    requires { IsKeyLength (4 * words) }
+    ensures { result ≡ i / words }
+{
+    match words {
+        4 => i / 4,
+        6 => i / 6,
+        _ => i / 8,
     }
 }
 
+// What the word before word `i` becomes, in the expansion of a key of so many words.
+#[inline(always)]
+fn turned_word(words: usize, i: usize, t: u8x4) -> u8x4
+    requires words { IsKeyLength (4 * words) }
+    requires place { (words ≤ i) × (i < 4 * (words + 7)) }
+    ensures { result ≡ turned_word words i t }
+{
+    let turns = whole_keys(words, i);
+    if i == turns * words {
+        let rcon = u8x4::from_array([RCON[turns - 1], 0, 0, 0]);
+        return xor_words(sub_word(rotated(t)), rcon);
+    }
+    if words == 8 && i % 8 == 4 {
+        return sub_word(t);
+    }
+    t
+}
+
 // Word `i`, from those before it.
-fn next_word(keys: &[u8; 240], words: usize, i: usize) -> [u8; 4]
-    requires words { (4 ≤ words) × (words ≤ 8) }
+#[inline(always)]
+fn next_word(keys: &[u8; 240], words: usize, i: usize) -> u8x4
+    requires words { IsKeyLength (4 * words) }
     requires place { (words ≤ i) × (i < 4 * (words + 7)) }
     ensures { result ≡ next_word words keys.now i }
 {
-    let j = 4 * (i - 1);
-    let t = turned_word(words, i, [keys[j], keys[j + 1], keys[j + 2], keys[j + 3]]);
-    let k = 4 * (i - words);
-    [
-        keys[k] ^ t[0],
-        keys[k + 1] ^ t[1],
-        keys[k + 2] ^ t[2],
-        keys[k + 3] ^ t[3],
-    ]
+    xor_words(
+        word(keys, i - words),
+        turned_word(words, i, word(keys, i - 1)),
+    )
 }
 
 // Puts a word at its place.
-fn put_word(keys: &mut [u8; 240], i: usize, t: [u8; 4])
+fn put_word(keys: &mut [u8; 240], i: usize, t: u8x4)
     requires { i < 60 }
     ensures { take (4 * (i + 1)) keys.new ≡ take (4 * i) keys.old ++ t }
 {
-    let [a, b, c, d] = t;
-    keys[4 * i] = a;
-    keys[4 * i + 1] = b;
-    keys[4 * i + 2] = c;
-    keys[4 * i + 3] = d;
+    keys[4 * i..4 * i + 4].copy_from_slice(&t.to_array());
 }
 
 // The key, with zeros after it.

@@ -2,14 +2,16 @@
 //!
 //! - `cipher`: a key set up for use, and the encryption of a block under it;
 //! - `keys`: the expansion of a key;
-//! - `rounds`: the steps of a round;
-//! - `tables`: the S-box and the round constants;
+//! - `rounds` and `inversion`: the steps of a round on the sixteen bytes of a state side by side;
+//! - `tables`: the entries of their look-ups, and the round constants;
 //! - `laws`: the standard's published examples, of the definition alone.
 //!
-//! There is no decryption: the generators that stand on this crate never ask for one.
+//! There is no decryption: the generators that stand on this crate never ask for one. No table is read at a place in memory
+//! that depends on the key or the block; the code is written so, and no contract says it.
 #![tactic(auto)]
 
 mod cipher;
+mod inversion;
 mod keys;
 mod laws;
 mod rounds;

@@ -2,45 +2,42 @@
 // padded key are kept, so that each text under a key that is set up costs no compression of the key.
 ghost use Rattle.std.specs.Prelude.{◌≡◌, ◌≤◌, ◌++◌, [], List, ℕ, length};
 ghost use Rattle.hmac_core.specs.declared.hash.Hash.{Hash};
-ghost use Rattle.hmac_core.specs.Hmac.{hash_of, block_len, block_key, zero_padded, xor_each, hmac};
-ghost use Rattle.hmac_core.specs.Holds.{HoldsMessage, HoldsText, StartsFrom};
+ghost use Rattle.hmac_core.specs.Hmac.{block_len, zero_padded, xor_each, hmac};
+ghost use Rattle.hmac_core.specs.Holds.{HoldsText, StartsFrom};
 
 use crate::Hash;
-use crate::hasher::Hasher;
+use crate::states::{States, digest_of};
 use rbg_bytes::Fixed;
 
 // The longest block of the hash functions.
 const MAX_BLOCK: usize = 128;
 
-// The digest of a whole message.
-fn digest_of(hash: Hash, message: &[u8]) -> Fixed<64>
-    ensures { result ≡ hash_of hash message.now }
+// The key, with zeros after it.
+fn padded(key: &[u8]) -> [u8; MAX_BLOCK]
+    requires { length key.now ≤ 128 }
+    ensures { result ≡ zero_padded 128 key.now }
 {
-    let mut state = Hasher::new(hash);
-    state.update(message);
-    state.finish()
+    let mut block = [0u8; MAX_BLOCK];
+    block[..key.len()].copy_from_slice(key);
+    block
 }
 
-// A hash state that holds the block xor a pad.
-fn padded_state(hash: Hash, pad: u8, block: &[u8]) -> Hasher
-    requires { length block.now ≤ 128 }
-    ensures { HoldsMessage result hash (xor_each pad block.now) }
+// Each byte xor the byte of a pad.
+fn xored(pad: u8, block: &[u8; MAX_BLOCK]) -> [u8; MAX_BLOCK]
+    ensures { result ≡ xor_each pad block.now }
 {
     let mut padded = [0u8; MAX_BLOCK];
-    for i in 0..block.len() {
+    for i in 0..MAX_BLOCK {
         padded[i] = block[i] ^ pad;
     }
-    let mut state = Hasher::new(hash);
-    state.update(&padded[..block.len()]);
-    state
+    padded
 }
 
 /// HMAC of a key and of a text that comes piece by piece (FIPS 198-1). It keeps the two hash states after the padded key, so
-/// that copies of one `Mac` compute many texts under a key that was set up once.
+/// that one `Mac` computes many texts under a key that was set up once.
 #[derive(Drop)]
 pub struct Mac {
-    inner: Hasher,
-    outer: Hasher,
+    states: States,
 }
 
 impl Mac {
@@ -60,26 +57,31 @@ impl Mac {
     pub fn update(&mut self, bytes: &[u8])
         ensures { (hash : Hash) (key text : List ℕ) → HoldsText self.old hash key text → HoldsText self.new hash key (text ++ bytes.now) }
     {
-        self.inner.update(bytes);
+        self.states.update(bytes);
     }
 
     /// HMAC of the key and the text, however the text was cut into pieces, in as many bytes as a digest has.
+    #[tactic(auto, using(std::proofs::lemmas::Grind::common_steps))]
     pub fn finish(self) -> Fixed<64>
         ensures { (hash : Hash) (key text : List ℕ) → HoldsText self hash key text → result ≡ hmac hash key text }
     {
-        let inner = self.inner.finish();
-        let mut outer = self.outer;
-        outer.update(inner.as_slice());
-        outer.finish()
+        self.finish_with(&[])
     }
 
-    /// The same key and text once more.
+    /// HMAC of the key, the text and these bytes after it. The text stays as it is.
+    #[tactic(auto, unfolding(crate::specs::Hmac::hmac))]
+    pub fn finish_with(&self, bytes: &[u8]) -> Fixed<64>
+        ensures { (hash : Hash) (key text : List ℕ) → HoldsText self.now hash key text → result ≡ hmac hash key (text ++ bytes.now) }
+    {
+        self.states.finish_with(bytes)
+    }
+
+    /// The same key and text once more. It takes no memory.
     pub fn copy(&self) -> Mac
         ensures { result ≡ self.now }
     {
         Mac {
-            inner: self.inner.copy(),
-            outer: self.outer.copy(),
+            states: self.states.clone().unwrap(),
         }
     }
 
@@ -88,12 +90,12 @@ impl Mac {
         requires { length key.now ≤ block_len hash }
         ensures { StartsFrom result hash (zero_padded (block_len hash) key.now) }
     {
-        let mut block = [0u8; MAX_BLOCK];
-        block[..key.len()].copy_from_slice(key);
-        let block = &block[..hash.block_len()];
+        let len = hash.block_len();
+        let block = padded(key);
+        let inner = xored(0x36, &block);
+        let outer = xored(0x5c, &block);
         Mac {
-            inner: padded_state(hash, 0x36, block),
-            outer: padded_state(hash, 0x5c, block),
+            states: States::of(hash, &inner[..len], &outer[..len]),
         }
     }
 }

@@ -27,15 +27,6 @@ pub fn mac_of_parts(
     keyed.finish()
 }
 
-// HMAC of a value.
-pub fn mac_of(keyed: &Mac, value: &[u8]) -> Fixed<64>
-    ensures { (hash : Hash) (key : List ℕ) → HoldsText keyed.now hash key [] → result ≡ hmac hash key value.now }
-{
-    let mut mac = keyed.copy();
-    mac.update(value);
-    mac.finish()
-}
-
 // Puts as many bytes of the block as there is room for at a place.
 pub fn put_block(out: &mut [u8], at: usize, block: &[u8])
     requires { at ≤ length out.old }

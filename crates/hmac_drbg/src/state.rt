@@ -5,7 +5,7 @@ ghost use Rattle.hmac_core.specs.Holds.{HoldsText};
 ghost use Rattle.hmac_drbg.specs.HmacDrbg.{half_update, update, instantiated, reseeded, with_additional, generated, after_generate, turned, gathered, blocks_for};
 ghost use Rattle.hmac_drbg.specs.State.{working, IsWellFormed};
 
-use crate::keyed::{is_any, mac_of, mac_of_parts, put_block};
+use crate::keyed::{is_any, mac_of_parts, put_block};
 use hmac_core::{Hash, Mac};
 use rbg_bytes::Fixed;
 
@@ -147,7 +147,7 @@ impl HmacDrbg {
             ≡ take at out.old ++ take (length out.old - at) (hmac self.old.hash self.old.k self.old.v) }
         ensures state { self.new ≡ record self.old { v = hmac self.old.hash self.old.k self.old.v } }
     {
-        self.v = mac_of(keyed, self.v.as_slice());
+        self.v = keyed.finish_with(self.v.as_slice());
         put_block(out, at, self.v.as_slice());
     }
 
@@ -185,7 +185,7 @@ impl HmacDrbg {
     {
         self.k = mac_of_parts(keyed, self.v.as_slice(), mark, first, second, third);
         let changed = self.keyed();
-        self.v = mac_of(&changed, self.v.as_slice());
+        self.v = changed.finish_with(self.v.as_slice());
         changed
     }
 

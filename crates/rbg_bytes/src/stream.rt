@@ -14,7 +14,7 @@ pub struct Failed;
 pub struct OutOfMemory;
 
 /// Where bytes come from: a file, a socket, standard input, or a list in memory.
-pub trait ByteSource {
+pub trait ByteSource: Drop {
     /// The bytes that are still to come, where the source tells them.
     ghost left: { Self → Option (List ℕ) };
 
@@ -35,7 +35,7 @@ pub trait ByteSource {
 }
 
 /// Where bytes go to: a file, a socket, standard output, or room in memory.
-pub trait ByteSink {
+pub trait ByteSink: Drop {
     /// The bytes that were taken, where the sink tells them.
     ghost out: { Self → Option (List ℕ) };
 

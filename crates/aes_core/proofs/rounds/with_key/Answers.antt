@@ -1,7 +1,12 @@
-use Rattle.std.proofs.Common.{◌*◌, add-zero, refl}
-use Rattle.aes_core.specs.Aes.{add_round_key}
+use Rattle.std.proofs.Common.{◌-◌, ◌*◌, bit_xor, drop, ap, ◌∙◌, arith}
+use Rattle.std.proofs.lemmas.List.{take-take}
+use Rattle.std.specs.Simd.Lanes.{zip2}
+use Rattle.aes_core.proofs.Mixing.{with_key_is}
 use Rattle.aes_core.proofs.rounds.with_key.Goals as goal
 
 pub returns : goal.returns
-unfolding add_round_key
-returns c = rw (add-zero (16 * c.args.n)) refl
+returns c =
+    let keys = c.args.keys.now in
+    let n = c.args.n in
+    ap (zip2 bit_xor c.args.s) (take-take 16 (240 - 16 * n) (drop (16 * n) keys) (omega arith))
+    ∙ with_key_is keys c.args.s n c.fits-s.0 (omega arith)

@@ -14,7 +14,7 @@ pub rounds-preserved : goal.rounds-preserved
 rounds-preserved c =
     let r = c.self.inside.rounds in
     let held = c.self.invariant.bytes ∙ ap expanded c.self.view_is in
-    let is = rw (c.mixed_columns.ensures, c.substituted.ensures) at c.with_key-s-in-rounds.ensures in
+    let is = rw (c.mixed.ensures, c.shifted.ensures, c.substituted.ensures) at c.with_key-s-in-rounds.ensures in
     round_more c.self.inside.keys (expanded c.args.self.now) c.args.block.now c.rounds.s c.with_key-s-in-rounds.result (16 * (r + 1)) c.rounds.n
     c.rounds.auto.n (omega arith) held c.rounds.invariant is
 
@@ -22,6 +22,6 @@ pub returns-clause-value : goal.returns-clause-value
 returns-clause-value c =
     let r = c.self.inside.rounds in
     let end : c.rounds.n ≡ r = omega (arith, c.rounds.auto.n-end) in
-    let is = rw c.substituted-2.ensures at c.with_key.ensures in
+    let is = rw (c.shifted-2.ensures, c.substituted-2.ensures) at c.with_key.ensures in
     last_round c.self.inside.keys c.args.self.now c.args.block.now c.rounds.s c.with_key.result r c.rounds.n
     c.self.invariant c.self.view_is end c.rounds.invariant is

@@ -1,0 +1,14 @@
+use Rattle.std.proofs.Common.{bit_xor}
+use Rattle.std.proofs.lemmas.Simd.{zip2_of_maps}
+use Rattle.aes_core.specs.Inversion.{look, upper_of, share_of}
+use Rattle.aes_core.specs.declared.tables.TheConstants.{INVERSE}
+use Rattle.aes_core.proofs.Lanes.{after, reads}
+use Rattle.aes_core.proofs.inversion.first_place.Goals as goal
+
+pub look_up-requires : goal.look_up-requires
+look_up-requires c = reads upper_of c.args.y _ c.fits-y c.upper.ensures tt
+
+pub returns : goal.returns
+returns c =
+    zip2_of_maps bit_xor (λ y. look INVERSE (upper_of y)) share_of c.args.y
+    (after (look INVERSE) upper_of c.args.y _ _ c.look_up.ensures c.upper.ensures) c.share.ensures

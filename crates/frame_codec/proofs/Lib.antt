@@ -1,0 +1,16 @@
+pub mod Digits
+pub mod Rows
+pub mod Fronts
+pub mod Scripts
+pub mod Grammar
+pub mod Requests
+pub mod Replies
+pub mod RequestLaws
+pub mod Reaching
+pub mod Heads
+pub mod Decoding
+pub mod Reading
+pub mod Lengths
+pub mod Writing
+pub mod ReplyDecoding
+pub mod ReplyReading

@@ -1,0 +1,7 @@
+pub mod Files
+pub mod MemoryFiles
+pub mod Ends
+pub mod Answers
+pub mod Session
+pub mod Statuses
+pub mod Run

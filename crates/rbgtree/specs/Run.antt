@@ -1,0 +1,69 @@
+-- What the program does, by the status that it ends with, and what each status rests on.
+-- This project's own; the seed is used as SP 800-90A Rev. 1, 10.1.2.3 uses entropy and nonce.
+use Rattle.std.specs.Prelude.{◌≡◌, ◌<◌, ℕ, List, [], ◌∷◌, length, take, drop, codes}
+use Rattle.std.specs.declared.option.Option.{Option}
+use Rattle.rbg_bytes.specs.Streams.{Rose}
+use Rattle.hmac_core.specs.declared.hash.Hash.TheVariants.{Sha256}
+use Rattle.hmac_drbg.specs.HmacDrbg.{instantiated, Working}
+use Rattle.rbgtree.specs.Files.{Entries, BeginsFile, IsWholeFile}
+use Rattle.rbgtree.specs.Session.{Session}
+use Rattle.rbgtree.specs.Statuses.{status_of}
+use Rattle.rbgtree.specs.declared.ends.End.{End}
+use Rattle.rbgtree.specs.declared.status.Status.{Status}
+use Rattle.rbgtree.specs.declared.status.Status.TheVariants.{Usage, Memory, ReadFault, WriteFault, OpenFault, SeedShort}
+
+-- what is told of the world, the input and the output at a moment, and their counts of faults
+pub record Outside : Type 0 where
+  pub files : Option Entries
+  pub left : Option (List ℕ)
+  pub out : Option (List ℕ)
+  pub world : ℕ
+  pub input : ℕ
+  pub output : ℕ
+
+-- nothing was read from the input, and nothing was written
+pub record IsUntouched (before now : Outside) : Type 0 where
+  pub left : now.left ≡ before.left
+  pub out : now.out ≡ before.out
+
+-- the words are `seed` and a name
+abbrev pub IsSeedCommand : List (List ℕ) → List ℕ → Type 0
+IsSeedCommand words name = words ≡ codes "seed" ∷ name ∷ []
+
+-- the working state that 48 bytes give: the first 32 are the entropy, the other 16 the nonce
+abbrev pub seeded : List ℕ → Working
+seeded seed = instantiated Sha256 (take 32 seed) (drop 32 seed) []
+
+-- the first 48 bytes of the file gave the state from which one session of at most 1,048,576 frames was held
+abbrev pub Served : List ℕ → Outside → Outside → End → Type 0
+Served name before now end =
+    (seed : List ℕ) × (length seed ≡ 48) × BeginsFile before.files name seed
+    × Session Sha256 (seeded seed) 1048576 end before.left now.left before.out now.out
+
+-- what was done, by the status
+abbrev pub Ran : List (List ℕ) → Outside → Outside → Status → Type 0
+Ran words before now Usage = ((name : List ℕ) → IsSeedCommand words name → ⊥) × IsUntouched before now
+Ran words before now Memory = (name : List ℕ) × IsSeedCommand words name × IsUntouched before now
+Ran words before now (OpenFault count) = (name : List ℕ) × IsSeedCommand words name × IsUntouched before now
+Ran words before now (SeedShort node have need) =
+    (name : List ℕ) × IsSeedCommand words name × IsUntouched before now
+    × (bytes : List ℕ) × IsWholeFile before.files name bytes × (length bytes < 48) × (node ≡ 0) × (have ≡ length bytes) × (need ≡ 48)
+Ran words before now status =
+    (name : List ℕ) × IsSeedCommand words name × (end : End) × (status ≡ status_of end) × Served name before now end
+
+-- no count of faults grew
+pub record IsFaultless (before now : Outside) : Type 0 where
+  pub world : now.world ≡ before.world
+  pub input : now.input ≡ before.input
+  pub output : now.output ≡ before.output
+
+-- A fault of the outside is answered only where its count rose in this call, with that count, and no other count grew. With
+-- every other status none grew.
+abbrev pub HasStatusCause : Outside → Outside → Status → Type 0
+HasStatusCause before now (ReadFault count) =
+    Rose before.input now.input × (count ≡ now.input) × (now.world ≡ before.world) × (now.output ≡ before.output)
+HasStatusCause before now (WriteFault count) =
+    Rose before.output now.output × (count ≡ now.output) × (now.world ≡ before.world) × (now.input ≡ before.input)
+HasStatusCause before now (OpenFault count) =
+    Rose before.world now.world × (count ≡ now.world) × (now.input ≡ before.input) × (now.output ≡ before.output)
+HasStatusCause before now status = IsFaultless before now

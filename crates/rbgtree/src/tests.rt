@@ -1,0 +1,353 @@
+// Runs of `run` over files, input and output in memory: what the frames of a session are answered, and how the program ends.
+ghost use Rattle.std.specs.Prelude.{◌≤◌};
+
+use crate::ends::End;
+use crate::host::{OsWorld, Reading, Writing};
+use crate::memory_world::MemWorld;
+use crate::session::session;
+use crate::status::Status;
+use crate::top::run;
+use crate::world::World;
+use hmac_drbg::{Hash, HmacDrbg};
+use rbg_bytes::{ByteSink, ByteSource, Failed, MemSink, MemSource};
+use sha2::{Digest, Sha256};
+use std::process::Abort;
+use std::test::Fail;
+
+/// What a run is over: how many bytes of 00, 01 and so on the file `s` has, how many bytes one read of the input gives, and
+/// which calls of the world, the input and the output fail.
+#[derive(Clone, Copy)]
+struct Setting {
+    seed: u8,
+    piece: usize,
+    world: u64,
+    input: u64,
+    output: u64,
+    room: usize,
+}
+
+/// No call with this number is made.
+const NEVER: u64 = u64::MAX;
+
+/// A whole seed, whole pieces and no fault.
+const PLAIN: Setting = Setting {
+    seed: 48,
+    piece: 65_536,
+    world: NEVER,
+    input: NEVER,
+    output: NEVER,
+    room: 70_000,
+};
+
+// The words as the program gets them.
+fn words_of(rt: &(impl Abort + AllocGlobal), words: &[&str]) -> Result<Vec<String>, Fail> {
+    let mut owned = Vec::new(rt.alloc());
+    for word in words {
+        owned.push(String::from_str(rt.alloc(), word)?)?;
+    }
+    Ok(owned)
+}
+
+// How the program ends with these words and this input, and what it wrote.
+fn ran(
+    rt: &(impl Abort + AllocGlobal),
+    words: &[&str],
+    input: &[u8],
+    setting: &Setting,
+) -> Result<(Status, Vec<u8>), Fail>
+    requires { 1 ≤ setting.now.piece }
+{
+    let alloc = rt.alloc();
+    let mut seed = Vec::new(alloc);
+    for byte in 0..setting.seed {
+        seed.push(byte)?;
+    }
+    let files = vec![in alloc; (String::from_str(alloc, "s")?, seed)]?;
+    let mut world = MemWorld::new(files, vec![in alloc; setting.world]?);
+    let mut source = MemSource::new(
+        input.to_vec(alloc)?,
+        setting.piece,
+        vec![in alloc; setting.input]?,
+    );
+    let mut sink = MemSink::new(
+        vec![in alloc; 0u8; setting.room]?,
+        vec![in alloc; setting.output]?,
+    );
+    let status = run(
+        alloc,
+        &words_of(rt, words)?,
+        &mut world,
+        &mut source,
+        &mut sink,
+    );
+    Ok((status, sink.written().to_vec(alloc)?))
+}
+
+// The bytes of a hexadecimal text.
+fn bytes_of(rt: &(impl Abort + AllocGlobal), text: &str) -> Result<Vec<u8>, Fail> {
+    match hex::decode(rt.alloc(), text.as_bytes()) {
+        Ok(bytes) => Ok(bytes),
+        Err(_) => panic!(rt; "not hexadecimal: {text}"),
+    }
+}
+
+// A run of `seed s` over this input ends so, and has written this. Both are hexadecimal.
+fn check(
+    rt: &(impl Abort + AllocGlobal),
+    input: &str,
+    setting: &Setting,
+    status: Status,
+    written: &str,
+) -> Result<(), Fail>
+    requires { 1 ≤ setting.now.piece }
+{
+    let input = bytes_of(rt, input)?;
+    let (ended, wrote) = ran(rt, &["seed", "s"], &input, setting)?;
+    assert_eq!(rt; ended, status);
+    assert_eq!(rt; wrote, bytes_of(rt, written)?);
+    Ok(())
+}
+
+const FIRST: &str = "01020000000000010000002000000000";
+
+const FIRST_REPLY: &str =
+    "010002000000000100000000000000000000000000000000000000200ffb80875a3e9022a4941a3fa1b0d3611df14e1cf651a73ce9229b9f3ad56887";
+
+#[test]
+fn replies_are_those_of_the_standard(rt: HostRuntime) -> Result<(), Fail> {
+    check(&rt, FIRST, &PLAIN, Status::Done, FIRST_REPLY)?;
+    check(&rt, "", &PLAIN, Status::Done, "")?;
+    // A Generate of no bytes moves the state once.
+    check(
+        &rt,
+        "0102000000000001000000000000000001020000000000010000002000000000",
+        &PLAIN,
+        Status::Done,
+        "010002000000000100000000000000000000000000000000000000000100020000000001000000000000000000000000000000000000002022582545f7d0bd478ee2bbadaa706b41a520e85b9fe8e2870552e7b05a04150e",
+    )?;
+    // Two frames, in one piece and a byte at a time.
+    let two = "0102000000000001000000200000000001020000000000020000002100000000";
+    let replies =
+        "010002000000000100000000000000000000000000000000000000200ffb80875a3e9022a4941a3fa1b0d3611df14e1cf651a73ce9229b9f3ad568870100020000000002000000000000000000000000000000000000002108767656d3e9669eb668d1e1f5b80d27bb1aee12ff719eeb83e3dce006718c162b";
+    check(&rt, two, &PLAIN, Status::Done, replies)?;
+    check(
+        &rt,
+        two,
+        &Setting { piece: 1, ..PLAIN },
+        Status::Done,
+        replies,
+    )
+}
+
+#[test]
+fn the_longest_request_and_one_byte_more(rt: HostRuntime) -> Result<(), Fail> {
+    let input = bytes_of(
+        &rt,
+        "0102000000000005000100000000000001020000000000050001000100000000",
+    )?;
+    let (status, written) = ran(&rt, &["seed", "s"], &input, &PLAIN)?;
+    assert_eq!(rt; status, Status::Done);
+    assert_eq!(rt; written.len(), 28 + 65_536 + 28);
+    let (head, rest) = written.as_slice().split_at(28);
+    let (payload, refusal) = rest.split_at(65_536);
+    let head_wanted = bytes_of(
+        &rt,
+        "01000200000000050000000000000000000000000000000000010000",
+    )?;
+    let digest_wanted = bytes_of(
+        &rt,
+        "1bd37178e33d4a054d4ec1a3c7409264b48b0877d8fbe38b013ba343527f1ccb",
+    )?;
+    let refusal_wanted = bytes_of(
+        &rt,
+        "01020200000000050000000000010001000000000001000000000000",
+    )?;
+    assert_eq!(rt; head, head_wanted.as_slice());
+    assert_eq!(rt;
+        Sha256::digest(payload).as_slice(),
+        digest_wanted.as_slice()
+    );
+    assert_eq!(rt; refusal, refusal_wanted.as_slice());
+    Ok(())
+}
+
+#[test]
+fn cut_and_malformed_input(rt: HostRuntime) -> Result<(), Fail> {
+    let cut = "010200000000000100000020000000";
+    check(&rt, cut, &PLAIN, Status::Cut { offset: 15 }, "")?;
+    let cases = [
+        (
+            "0103",
+            1,
+            "01ff0000000000000000000000000001000000000000000900000000",
+        ),
+        (
+            "010202",
+            2,
+            "01ff0000000000000000000000000002000000000000000900000000",
+        ),
+        (
+            "02",
+            0,
+            "01ff0000000000000000000000000000000000000000000900000000",
+        ),
+        (
+            "01020000000000010000002000000005",
+            15,
+            "01ff000000000000000000000000000f000000000000000900000000",
+        ),
+    ];
+    for (input, offset, written) in cases {
+        check(
+            &rt,
+            input,
+            &PLAIN,
+            Status::Malformed { offset, why: 9 },
+            written,
+        )?;
+    }
+    Ok(())
+}
+
+#[test]
+fn words_and_seeds_that_are_refused(rt: HostRuntime) -> Result<(), Fail> {
+    let input = bytes_of(&rt, FIRST)?;
+    let usages: [&[&str]; 5] = [
+        &[],
+        &["seed"],
+        &["answer"],
+        &["answer", "s"],
+        &["seed", "s", "s"],
+    ];
+    for words in usages {
+        let (status, written) = ran(&rt, words, &input, &PLAIN)?;
+        assert_eq!(rt; status, Status::Usage);
+        assert_eq!(rt; written.len(), 0);
+    }
+    let short = Setting { seed: 47, ..PLAIN };
+    let status = Status::SeedShort {
+        node: 0,
+        have: 47,
+        need: 48,
+    };
+    check(&rt, FIRST, &short, status, "")?;
+    let missing = ran(&rt, &["seed", "other"], &input, &PLAIN)?;
+    assert_eq!(rt; missing.0, Status::OpenFault { count: 1 });
+    assert_eq!(rt; missing.1.len(), 0);
+    let failed = Setting { world: 0, ..PLAIN };
+    check(&rt, FIRST, &failed, Status::OpenFault { count: 1 }, "")
+}
+
+#[test]
+fn reads_and_writes_that_fail(rt: HostRuntime) -> Result<(), Fail> {
+    let read = Setting {
+        piece: 20,
+        input: 1,
+        ..PLAIN
+    };
+    let two = "0102000000000001000000200000000001020000000000020000002100000000";
+    check(&rt, two, &read, Status::ReadFault { count: 1 }, FIRST_REPLY)?;
+    let full = Setting { room: 59, ..PLAIN };
+    let (most, _) = FIRST_REPLY.split_at(118);
+    check(&rt, FIRST, &full, Status::WriteFault { count: 1 }, most)?;
+    let unsaid = Setting { output: 0, ..PLAIN };
+    check(&rt, "00", &unsaid, Status::WriteFault { count: 1 }, "")?;
+    let three = bytes_of(
+        &rt,
+        "010200000000000100000020000000000102000000000001000000200000000001020000000000010000002000000000",
+    )?;
+    for (output, len) in [(0, 0), (1, 60), (2, 120)] {
+        let setting = Setting { output, ..PLAIN };
+        let (status, written) = ran(&rt, &["seed", "s"], &three, &setting)?;
+        assert_eq!(rt; status, Status::WriteFault { count: 1 });
+        assert_eq!(rt; written.len(), len);
+    }
+    Ok(())
+}
+
+#[test]
+fn the_quota_ends_a_session(rt: HostRuntime) -> Result<(), Fail> {
+    let alloc = rt.alloc();
+    let four = bytes_of(
+        &rt,
+        "01020000000000010000000000000000010200000000000200000000000000000102000000000003000000000000000001020000000000040000000000000000",
+    )?;
+    let mut source = MemSource::new(four, 65_536, Vec::new(alloc));
+    let mut sink = MemSink::new(vec![in alloc; 0u8; 112]?, Vec::new(alloc));
+    let mut piece = vec![in alloc; 0u8; 65_536]?;
+    let mut buffer = vec![in alloc; 0u8; 65_564]?;
+    let drbg = HmacDrbg::instantiate(Hash::Sha256, &[1; 32], &[2; 16], &[]);
+    let end = session(drbg, 3, &mut piece, &mut buffer, &mut source, &mut sink);
+    assert_eq!(rt; end, End::Quota { frames: 3 });
+    assert_eq!(rt; sink.written().len(), 84);
+    Ok(())
+}
+
+#[test]
+fn each_status_has_its_number_and_line(rt: HostRuntime) -> Result<(), Fail> {
+    let short = Status::SeedShort {
+        node: 0,
+        have: 47,
+        need: 48,
+    };
+    let cases = [
+        (Status::Done, 0, ""),
+        (
+            Status::Usage,
+            1,
+            "usage: rbgtree seed FILE, answer CONFIG, check CONFIG, replay hmac FILE, replay ctr FILE, load CONFIG N SEED, load CONFIG N SEED WORKERS, serve CONFIG ADDR WORKERS CONNS\n",
+        ),
+        (
+            Status::Malformed { offset: 2, why: 3 },
+            3,
+            "malformed frame at 2, why 3\n",
+        ),
+        (Status::Cut { offset: 16 }, 3, "input cut at 16\n"),
+        (Status::ReadFault { count: 1 }, 4, "read fault 1\n"),
+        (Status::WriteFault { count: 2 }, 5, "write fault 2\n"),
+        (Status::OpenFault { count: 3 }, 6, "open fault 3\n"),
+        (Status::Memory, 7, "out of memory\n"),
+        (
+            Status::Quota { frames: 1_048_576 },
+            9,
+            "quota of 1048576 frames\n",
+        ),
+        (short, 10, "seed of node 0 has 47 of 48 bytes\n"),
+    ];
+    for (status, number, line) in cases {
+        let alloc = rt.alloc();
+        let mut sink = MemSink::new(vec![in alloc; 0u8; 512]?, Vec::new(alloc));
+        assert_eq!(rt; status.number(), number);
+        assert_eq!(rt; status.line(&mut sink), Ok(()));
+        assert_eq!(rt; sink.written(), line.as_bytes());
+    }
+    Ok(())
+}
+
+#[test]
+fn real_files_readers_and_writers(rt: HostRuntime) -> Result<(), Fail> {
+    let name = "rbgtree-test-file";
+    std::fs::write(&rt, name, "0123456789")?;
+    let mut world = OsWorld::new(&rt);
+    let mut buf = [0u8; 4];
+    assert_eq!(rt; world.read_file(name, 0, &mut buf), Ok(4));
+    assert_eq!(rt; buf, *b"0123");
+    assert_eq!(rt; world.read_file(name, 8, &mut buf), Ok(2));
+    assert_eq!(rt; buf, *b"8923");
+    assert_eq!(rt; world.read_file(name, 10, &mut buf), Ok(0));
+    std::fs::remove_file(&rt, name)?;
+    assert_eq!(rt; world.read_file(name, 0, &mut buf), Err(Failed));
+    assert_eq!(rt; world.read_file(".", 0, &mut buf), Err(Failed));
+    assert_eq!(rt; world.fault_count(), 2);
+
+    let mut reading = Reading::new(b"abcde".as_slice());
+    assert_eq!(rt; reading.read(&mut buf), Ok(4));
+    assert_eq!(rt; buf, *b"abcd");
+    assert_eq!(rt; reading.fault_count(), 0);
+    let mut room = [0u8; 3];
+    let mut writing = Writing::new(room.as_mut_slice());
+    assert_eq!(rt; writing.write_all(b"xy"), Ok(()));
+    assert_eq!(rt; writing.write_all(b"zw"), Err(Failed));
+    assert_eq!(rt; writing.fault_count(), 1);
+    Ok(())
+}
