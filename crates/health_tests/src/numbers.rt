@@ -8,7 +8,7 @@ use crate::{Cutoffs, Test};
 #[derive(Clone, Copy)]
 pub struct Tail {
     pub run: u32,
-    pub place: u16,
+    pub place: u32,
     pub equal: u16,
     pub last: u8,
     pub first: u8,
@@ -34,16 +34,29 @@ impl Tail {
         requires equal { self.equal < 2 ^ 16 - 1 }
         ensures { result ≡ tail_step window self sample }
     {
-        let begins = self.place == 0;
-        let first = if begins { sample } else { self.first };
-        let before = if begins { 0 } else { self.equal };
-        let place = self.place + 1;
+        let run = if sample == self.last { self.run + 1 } else { 1 };
+        let next = self.place + 1;
+        let place = if next == u32::from(window) { 0 } else { next };
+        if self.place == 0 {
+            return Tail {
+                run,
+                place,
+                equal: 1,
+                last: sample,
+                first: sample,
+            };
+        }
+        let equal = if sample == self.first {
+            self.equal + 1
+        } else {
+            self.equal
+        };
         Tail {
-            run: if sample == self.last { self.run + 1 } else { 1 },
-            place: if place == window { 0 } else { place },
-            equal: if sample == first { before + 1 } else { before },
+            run,
+            place,
+            equal,
             last: sample,
-            first,
+            first: self.first,
         }
     }
 
