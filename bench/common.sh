@@ -24,7 +24,9 @@ build_crate() {
     (cd "crates/$crate" && rt run -- "$@") </dev/null >"$work/log" 2>&1 || { cat "$work/log"; exit 1; }
 }
 
-# Builds a peer in C over OpenSSL, as $work/NAME.
+# Builds a peer in C over OpenSSL and over further libraries, as $work/NAME.
 build_peer() {
-    cc -O2 -o "$work/$1" "bench/$1.c" -lcrypto || exit 1
+    local peer=$1
+    shift
+    cc -O2 -o "$work/$peer" "bench/$peer.c" "$@" -lcrypto || exit 1
 }

@@ -35,6 +35,7 @@ static EVP_RAND_CTX *instantiate(const struct mechanism *m, unsigned char *entro
                                  unsigned char *nonce, size_t nonce_len)
 {
     unsigned int strength = 256, never = 0;
+    int derived = 1;
     time_t no_time = 0;
     EVP_RAND_CTX *parent = new_rand("TEST-RAND", NULL);
     EVP_RAND_CTX *drbg = new_rand(m->drbg, parent);
@@ -46,7 +47,9 @@ static EVP_RAND_CTX *instantiate(const struct mechanism *m, unsigned char *entro
     };
     OSSL_PARAM choice[] = {
         OSSL_PARAM_construct_utf8_string(m->parameter, (char *)m->value, 0),
+        /* HMAC-DRBG reads the one of these, CTR-DRBG the other. */
         OSSL_PARAM_construct_utf8_string(OSSL_DRBG_PARAM_MAC, "HMAC", 0),
+        OSSL_PARAM_construct_int(OSSL_DRBG_PARAM_USE_DF, &derived),
         OSSL_PARAM_construct_uint(OSSL_DRBG_PARAM_RESEED_REQUESTS, &never),
         OSSL_PARAM_construct_time_t(OSSL_DRBG_PARAM_RESEED_TIME_INTERVAL, &no_time),
         OSSL_PARAM_construct_end(),

@@ -13,6 +13,9 @@ static const struct mechanism mechanisms[] = {
     {"hmac-sha-512", "HMAC-DRBG", OSSL_DRBG_PARAM_DIGEST, "SHA2-512"},
     {"hmac-sha-512-224", "HMAC-DRBG", OSSL_DRBG_PARAM_DIGEST, "SHA2-512/224"},
     {"hmac-sha-512-256", "HMAC-DRBG", OSSL_DRBG_PARAM_DIGEST, "SHA2-512/256"},
+    {"ctr-aes-128", "CTR-DRBG", OSSL_DRBG_PARAM_CIPHER, "AES-128-CTR"},
+    {"ctr-aes-192", "CTR-DRBG", OSSL_DRBG_PARAM_CIPHER, "AES-192-CTR"},
+    {"ctr-aes-256", "CTR-DRBG", OSSL_DRBG_PARAM_CIPHER, "AES-256-CTR"},
 };
 
 static const struct mechanism *mechanism_named(const char *name)

@@ -1,20 +1,37 @@
 -- The bytes of many generates, one after another.
--- SP 800-90A Rev. 1, 10.1.2.5, with no additional input.
+-- SP 800-90A Rev. 1, 10.1.2.5 and 10.2.1.5.2, with no additional input.
 use Rattle.std.specs.Prelude.{ℕ, zero, suc, ◌+◌, List, [], ◌∷◌, ◌++◌}
 use Rattle.hmac_core.specs.declared.hash.Hash.{Hash}
-use Rattle.hmac_drbg.specs.HmacDrbg.{Working, generated, after_generate}
+use Rattle.hmac_drbg.specs.HmacDrbg as hmac_drbg
+use Rattle.ctr_drbg.specs.declared.seeds.Mode.TheVariants.{UseDf}
+use Rattle.ctr_drbg.specs.CtrDrbg as ctr_drbg
 
 -- so many bytes that count up from a first one
 abbrev pub counting_from : ℕ → ℕ → List ℕ
 counting_from first zero = []
 counting_from first (suc n) = first ∷ counting_from (first + 1) n
 
+-- Key and V of HMAC_DRBG over a hash function, or of CTR_DRBG with AES and the derivation function
+pub data State : Type 0 where
+  OfHmac : Hash → hmac_drbg.Working → State
+  OfCtr : ctr_drbg.Working → State
+
+-- the bytes of a generate of n bytes
+abbrev pub generated : ℕ → State → List ℕ
+generated n (OfHmac h s) = hmac_drbg.generated h [] n s
+generated n (OfCtr s) = ctr_drbg.generated UseDf [] n s
+
+-- the state after it
+abbrev pub after_generate : ℕ → State → State
+after_generate n (OfHmac h s) = OfHmac h (hmac_drbg.after_generate h [] n s)
+after_generate n (OfCtr s) = OfCtr (ctr_drbg.after_generate UseDf [] n s)
+
 -- the state after so many generates of n bytes
-unfoldable pub state_after : Hash → ℕ → ℕ → Working → Working
-state_after h n zero s = s
-state_after h n (suc times) s = after_generate h [] n (state_after h n times s)
+unfoldable pub state_after : ℕ → ℕ → State → State
+state_after n zero s = s
+state_after n (suc times) s = after_generate n (state_after n times s)
 
 -- their bytes
-unfoldable pub outputs : Hash → ℕ → ℕ → Working → List ℕ
-outputs h n zero s = []
-outputs h n (suc times) s = outputs h n times s ++ generated h [] n (state_after h n times s)
+unfoldable pub outputs : ℕ → ℕ → State → List ℕ
+outputs n zero s = []
+outputs n (suc times) s = outputs n times s ++ generated n (state_after n times s)

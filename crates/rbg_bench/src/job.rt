@@ -1,25 +1,36 @@
 // What the words ask for.
 ghost use Rattle.std.specs.Prelude.{◌≤◌, IfSome};
 
+use ctr_drbg::KeyLen;
 use hmac_core::Hash;
+
+// HMAC_DRBG over a hash function, or CTR_DRBG with AES and the derivation function.
+#[derive(Clone, Copy)]
+pub enum Mechanism {
+    OverHash(Hash),
+    OverAes(KeyLen),
+}
 
 // The mechanism, the bytes of each generate and how many generates.
 #[derive(Clone, Copy)]
 pub struct Job {
-    pub hash: Hash,
+    pub mechanism: Mechanism,
     pub bytes: usize,
     pub times: u32,
 }
 
-// The hash function of HMAC_DRBG that a word names.
-fn hash_named(word: &str) -> Option<Hash> {
+// The mechanism that a word names.
+fn mechanism_named(word: &str) -> Option<Mechanism> {
     match word {
-        "hmac-sha-224" => Some(Hash::Sha224),
-        "hmac-sha-256" => Some(Hash::Sha256),
-        "hmac-sha-384" => Some(Hash::Sha384),
-        "hmac-sha-512" => Some(Hash::Sha512),
-        "hmac-sha-512-224" => Some(Hash::Sha512_224),
-        "hmac-sha-512-256" => Some(Hash::Sha512_256),
+        "hmac-sha-224" => Some(Mechanism::OverHash(Hash::Sha224)),
+        "hmac-sha-256" => Some(Mechanism::OverHash(Hash::Sha256)),
+        "hmac-sha-384" => Some(Mechanism::OverHash(Hash::Sha384)),
+        "hmac-sha-512" => Some(Mechanism::OverHash(Hash::Sha512)),
+        "hmac-sha-512-224" => Some(Mechanism::OverHash(Hash::Sha512_224)),
+        "hmac-sha-512-256" => Some(Mechanism::OverHash(Hash::Sha512_256)),
+        "ctr-aes-128" => Some(Mechanism::OverAes(KeyLen::K16)),
+        "ctr-aes-192" => Some(Mechanism::OverAes(KeyLen::K24)),
+        "ctr-aes-256" => Some(Mechanism::OverAes(KeyLen::K32)),
         _ => None,
     }
 }
@@ -32,11 +43,15 @@ pub fn read_job(words: &[String]) -> Option<Job>
     let [mechanism, bytes, times] = words else {
         return None;
     };
-    let hash = hash_named(mechanism.as_str())?;
+    let mechanism = mechanism_named(mechanism.as_str())?;
     let bytes = bytes.as_str().parse::<usize>().ok()?;
     let times = times.as_str().parse::<u32>().ok()?;
     if bytes > 65536 || times < 1 || times > 1_000_000 {
         return None;
     }
-    Some(Job { hash, bytes, times })
+    Some(Job {
+        mechanism,
+        bytes,
+        times,
+    })
 }

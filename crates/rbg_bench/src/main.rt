@@ -4,6 +4,7 @@
 
 mod job;
 mod work;
+mod worker;
 
 use std::process::ExitCode;
 use std::{env, io};
@@ -24,8 +25,7 @@ fn main(rt: HostRuntime) -> io::Result<ExitCode> {
         return Ok(ExitCode::from(1));
     };
     let mut out = vec![in rt.alloc(); 0u8; job.bytes]?;
-    let drbg = work::started(job.hash);
-    let digest = work::digest_of_outputs(drbg, job.times, &mut out);
+    let digest = work::digest_of_mechanism(job.mechanism, job.times, &mut out);
     println!(rt; "{}", hex::encode(rt.alloc(), digest)?)?;
     Ok(ExitCode::SUCCESS)
 }
