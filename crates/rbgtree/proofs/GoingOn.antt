@@ -1,23 +1,20 @@
 -- How a session goes on by the bytes of a frame, and how it ends there.
-use Rattle.std.proofs.Common.{◌≡◌, ◌<◌, ◌≤◌, ℕ, ◌+◌, ◌∷◌, List, [], ◌++◌, length, take, drop, map, sym, ap, ◌∙◌, arith, length-append, append_assoc, append-nil, refl, subst, inl, inr, take-append-drop}
+use Rattle.std.proofs.Common.{◌≡◌, ◌<◌, ℕ, ◌+◌, ◌∷◌, List, [], ◌++◌, length, take, drop, map, sym, ap, ◌∙◌, arith, length-append, append_assoc, append-nil, refl, subst, inl, inr, take-append-drop}
 use Rattle.std.specs.declared.option.Option.{Option}
 use Rattle.std.specs.Io.KnownBytes.{Appends}
 use Rattle.std.proofs.KnownBytes.{Appends-trans}
 use Rattle.std.proofs.lemmas.List.{take_all}
 use Rattle.rbg_bytes.specs.Streams.{AppendsFront}
-use Rattle.frame_codec.specs.declared.frames.Request.{Request}
-use Rattle.frame_codec.specs.Grammar.{Framed, text_of}
+use Rattle.frame_codec.specs.Grammar.{text_of}
 use Rattle.frame_codec.specs.Frames.{Asked, Replied, replies, IsScript, IsBadAt, BeginsWith}
 use Rattle.frame_codec.specs.Decoding.{Begun, Reads}
 use Rattle.frame_codec.proofs.RequestLaws.{bad-more, script-begins, begins-more}
-use Rattle.hmac_core.specs.declared.hash.Hash.{Hash}
 use Rattle.hmac_drbg.specs.declared.state.HmacDrbg.{HmacDrbg}
-use Rattle.hmac_drbg.specs.HmacDrbg.{Working}
 use Rattle.hmac_drbg.specs.State.{working}
 use Rattle.rbgtree.specs.declared.ends.End.TheVariants.{Bad, WriteFault, Quota}
 use Rattle.rbgtree.specs.declared.session.Progress.{Progress}
-use Rattle.rbgtree.specs.Ends.{Ends, written, malformed}
-use Rattle.rbgtree.specs.Answers.{Answered, service, AreRight, answers, reply_to, state_after, state_after_all}
+use Rattle.rbgtree.specs.Ends.{written, malformed}
+use Rattle.rbgtree.specs.Answers.{service, AreRight, answers, reply_to, state_after, state_after_all}
 use Rattle.rbgtree.specs.Session.{Began, Stands, Stops}
 use Rattle.rbgtree.proofs.Replies.{next_answer, answers-push, state-push, asked-answers, right-answers, length-answers, written-push}
 

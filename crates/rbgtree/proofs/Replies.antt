@@ -1,5 +1,5 @@
 -- The replies to requests in a row, and to one request more.
-use Rattle.std.proofs.Common.{◌≡◌, ℕ, ◌+◌, ◌∷◌, List, [], ◌++◌, length, map, sym, ap, ◌∙◌, refl, arith, length-append}
+use Rattle.std.proofs.Common.{◌≡◌, ◌∷◌, List, [], ◌++◌, length, map, sym, ap, ◌∙◌, refl, arith}
 use Rattle.frame_codec.specs.Grammar.{text_of}
 use Rattle.frame_codec.specs.Frames.{Asked, replies}
 use Rattle.frame_codec.proofs.Scripts.{flat-push}

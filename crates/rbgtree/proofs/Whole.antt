@@ -1,15 +1,12 @@
 -- How a session begins and ends.
-use Rattle.std.proofs.Common.{◌≡◌, ◌≤◌, ◌<◌, ℕ, ◌+◌, ◌*◌, ◌∷◌, List, [], ◌++◌, length, take, map, sym, ap, ◌∙◌, arith, append-nil, refl, subst}
+use Rattle.std.proofs.Common.{◌≡◌, ◌<◌, ℕ, ◌*◌, ◌∷◌, List, [], ◌++◌, length, sym, ap, ◌∙◌, arith, append-nil, refl, subst}
 use Rattle.std.specs.declared.option.Option.{Option}
-use Rattle.std.specs.Io.KnownBytes.{Consumes, Appends, IsAtEnd, Keeps}
+use Rattle.std.specs.Io.KnownBytes.{Consumes, IsAtEnd, Keeps}
 use Rattle.std.proofs.KnownBytes.{Consumes-nil, Consumes-trans, Consumes-kept, Appends-nil}
-use Rattle.rbg_bytes.specs.Streams.{Rose}
 use Rattle.frame_codec.specs.Frames.{Asked, IsScript}
 use Rattle.frame_codec.specs.Decoding.{Begun, Reads}
 use Rattle.frame_codec.proofs.Lengths.{longest, reads-short}
-use Rattle.hmac_core.specs.declared.hash.Hash.{Hash}
 use Rattle.hmac_drbg.specs.declared.state.HmacDrbg.{HmacDrbg}
-use Rattle.hmac_drbg.specs.HmacDrbg.{Working}
 use Rattle.hmac_drbg.specs.State.{working}
 use Rattle.rbgtree.specs.declared.ends.End.{End}
 use Rattle.rbgtree.specs.declared.ends.End.TheVariants.{Read, Bad, Cut, ReadFault, WriteFault, Quota}

@@ -3,7 +3,7 @@
 use Rattle.std.specs.Prelude.{◌≡◌, ℕ, List, [], ◌∷◌, map, if◌then◌else◌, nat_lt}
 use Rattle.frame_codec.specs.declared.frames.Request.{Request}
 use Rattle.frame_codec.specs.declared.frames.ReplyHead.{ReplyHead}
-use Rattle.frame_codec.specs.Grammar.{Framed, text_of}
+use Rattle.frame_codec.specs.Grammar.{text_of}
 use Rattle.frame_codec.specs.Frames.{Asked, Replied, replies}
 use Rattle.hmac_core.specs.declared.hash.Hash.{Hash}
 use Rattle.hmac_drbg.specs.HmacDrbg.{Working, generated, after_generate}

@@ -1,4 +1,5 @@
 pub mod Files
+pub mod Recordings
 pub mod MemoryFiles
 pub mod Ends
 pub mod Answers

@@ -13,7 +13,7 @@ use Rattle.hmac_drbg.specs.State.{working, IsWellFormed}
 use Rattle.rbgtree.specs.Answers.{service, AreRight, answers, state_after_all}
 use Rattle.rbgtree.specs.Ends.{Ends, written}
 use Rattle.rbgtree.specs.declared.ends.End.{End}
-use Rattle.rbgtree.specs.declared.ends.End.TheVariants.{Read, Bad, Cut, ReadFault, WriteFault, Quota}
+use Rattle.rbgtree.specs.declared.ends.End.TheVariants.{Bad, ReadFault, WriteFault, Quota}
 use Rattle.rbgtree.specs.declared.session.Progress.{Progress}
 
 -- what a session begins with: the DRBG's hash function and working state, the most frames, and what the sink tells

@@ -1,11 +1,13 @@
-// The real files, input and output. They count their faults and tell no content.
+// The real files, noise sources, input and output. They count their faults and tell no content.
 ghost use Rattle.std.specs.Prelude.{None};
 ghost use Rattle.std.specs.Io.{ReadsAtMost};
 
 use crate::world::World;
 use rbg_bytes::{ByteSink, ByteSource, Failed};
-use std::fs;
-use std::io::{Read, Seek, SeekFrom, Write};
+use sample_source::Samples;
+use std::fs::{self, File};
+use std::io::{self, Read, Seek, SeekFrom, Write};
+use std::net::{Net, TcpStream};
 use std::rt::Files;
 
 /// A source over any reader, as standard input.
@@ -77,38 +79,117 @@ impl<W: Write + Drop> ByteSink for Writing<W> {
     }
 }
 
-/// The files of the system.
+/// The samples of a noise source: those of a file, as a device is one, or those that come over a connection.
 #[derive(Drop)]
-pub struct OsWorld<'a, F> {
-    files: &'a F,
+pub struct OsSamples {
+    device: Device,
     faults: u64,
 }
 
-impl<'a, F> OsWorld<'a, F> {
-    /// The files of which no read has failed yet.
-    pub fn new(files: &'a F) -> OsWorld<'a, F> {
-        OsWorld { files, faults: 0 }
+#[derive(Drop)]
+enum Device {
+    OfFile(File),
+    OfStream(TcpStream),
+}
+
+impl Device {
+    // The next samples, as many as come.
+    fn next(&mut self, buf: &mut [u8]) -> io::Result<usize>
+        ensures { ReadsAtMost result buf.new }
+    {
+        match self {
+            Device::OfFile(file) => file.read(buf),
+            Device::OfStream(stream) => stream.read(buf),
+        }
     }
 }
 
-// Reads a file's bytes from a place on. At its front nothing is sought, so that a pipe can be read too.
-fn read_at<F: Files>(files: &F, name: &str, at: u64, buf: &mut [u8]) -> std::io::Result<usize>
+impl Samples for OsSamples {
+    ghost told = { λ _. None };
+
+    ghost faults = { λ s. s.faults };
+
+    fn read(&mut self, buf: &mut [u8]) -> Result<usize, Failed> {
+        match self.device.next(buf) {
+            Ok(count) => Ok(count),
+            Err(_) => {
+                self.faults = self.faults.saturating_add(1);
+                Err(Failed)
+            }
+        }
+    }
+
+    fn fault_count(&self) -> u64 {
+        self.faults
+    }
+}
+
+/// The files and the noise sources of the system.
+#[derive(Drop)]
+pub struct OsWorld<'a, R> {
+    system: &'a R,
+    faults: u64,
+}
+
+impl<'a, R> OsWorld<'a, R> {
+    /// The system, of which nothing has failed yet.
+    pub fn new(system: &'a R) -> OsWorld<'a, R> {
+        OsWorld { system, faults: 0 }
+    }
+}
+
+// Opens samples by name: one that begins with `tcp:` is an address to connect to, any other is that of a file.
+fn open<R: Files<File = File> + Net<Stream = TcpStream>>(
+    system: &R,
+    name: &str,
+) -> io::Result<Device> {
+    match name.strip_prefix("tcp:") {
+        Some(address) => Ok(Device::OfStream(TcpStream::connect(system, address)?)),
+        None => Ok(Device::OfFile(fs::open(system, name)?)),
+    }
+}
+
+// Reads a file's bytes from a place on, until the buffer is full or the file ends. At its front nothing is sought, so that a
+// pipe can be read too.
+fn read_at<F: Files>(files: &F, name: &str, at: u64, buf: &mut [u8]) -> io::Result<usize>
     ensures { ReadsAtMost result buf.new }
 {
     let mut file = fs::open(files, name)?;
     if 0 < at {
         file.seek(SeekFrom::Start(at))?;
     }
-    file.read(buf)
+    let mut have = 0;
+    'reads: while have < buf.len() {
+        let count = file.read(&mut buf[have..])?;
+        if count == 0 {
+            return Ok(have);
+        }
+        have += count;
+    }
+    Ok(have)
 }
 
-impl<'a, F: Files> World for OsWorld<'a, F> {
+impl<'a, R: Files<File = File> + Net<Stream = TcpStream>> World for OsWorld<'a, R> {
+    type Samples = OsSamples;
+
     ghost files = { λ _. None };
+
+    ghost recordings = { λ _. None };
 
     ghost faults = { λ s. s.faults };
 
+    fn open_samples(&mut self, name: &str) -> Result<OsSamples, Failed> {
+        match open(self.system, name) {
+            Ok(device) => Ok(OsSamples { device, faults: 0 }),
+            Err(_) => {
+                self.faults = self.faults.saturating_add(1);
+                Err(Failed)
+            }
+        }
+    }
+
     fn read_file(&mut self, name: &str, at: u64, buf: &mut [u8]) -> Result<usize, Failed> {
-        match read_at(self.files, name, at, buf) {
+        match read_at(self.system, name, at, buf) {
             Ok(count) => Ok(count),
             Err(_) => {
                 self.faults = self.faults.saturating_add(1);

@@ -2,14 +2,13 @@
 ghost use Rattle.std.specs.Prelude.{◌≤◌};
 
 use crate::ends::End;
-use crate::host::{OsWorld, Reading, Writing};
 use crate::memory_world::MemWorld;
 use crate::session::session;
 use crate::status::Status;
 use crate::top::run;
-use crate::world::World;
 use hmac_drbg::{Hash, HmacDrbg};
 use rbg_bytes::{ByteSink, ByteSource, Failed, MemSink, MemSource};
+use sample_source::Recorded;
 use sha2::{Digest, Sha256};
 use std::process::Abort;
 use std::test::Fail;
@@ -63,7 +62,8 @@ fn ran(
         seed.push(byte)?;
     }
     let files = vec![in alloc; (String::from_str(alloc, "s")?, seed)]?;
-    let mut world = MemWorld::new(files, vec![in alloc; setting.world]?);
+    let samples: Vec<(String, Recorded)> = Vec::new(alloc);
+    let mut world = MemWorld::new(files, samples, vec![in alloc; setting.world]?);
     let mut source = MemSource::new(
         input.to_vec(alloc)?,
         setting.piece,
@@ -321,33 +321,5 @@ fn each_status_has_its_number_and_line(rt: HostRuntime) -> Result<(), Fail> {
         assert_eq!(rt; status.line(&mut sink), Ok(()));
         assert_eq!(rt; sink.written(), line.as_bytes());
     }
-    Ok(())
-}
-
-#[test]
-fn real_files_readers_and_writers(rt: HostRuntime) -> Result<(), Fail> {
-    let name = "rbgtree-test-file";
-    std::fs::write(&rt, name, "0123456789")?;
-    let mut world = OsWorld::new(&rt);
-    let mut buf = [0u8; 4];
-    assert_eq!(rt; world.read_file(name, 0, &mut buf), Ok(4));
-    assert_eq!(rt; buf, *b"0123");
-    assert_eq!(rt; world.read_file(name, 8, &mut buf), Ok(2));
-    assert_eq!(rt; buf, *b"8923");
-    assert_eq!(rt; world.read_file(name, 10, &mut buf), Ok(0));
-    std::fs::remove_file(&rt, name)?;
-    assert_eq!(rt; world.read_file(name, 0, &mut buf), Err(Failed));
-    assert_eq!(rt; world.read_file(".", 0, &mut buf), Err(Failed));
-    assert_eq!(rt; world.fault_count(), 2);
-
-    let mut reading = Reading::new(b"abcde".as_slice());
-    assert_eq!(rt; reading.read(&mut buf), Ok(4));
-    assert_eq!(rt; buf, *b"abcd");
-    assert_eq!(rt; reading.fault_count(), 0);
-    let mut room = [0u8; 3];
-    let mut writing = Writing::new(room.as_mut_slice());
-    assert_eq!(rt; writing.write_all(b"xy"), Ok(()));
-    assert_eq!(rt; writing.write_all(b"zw"), Err(Failed));
-    assert_eq!(rt; writing.fault_count(), 1);
     Ok(())
 }

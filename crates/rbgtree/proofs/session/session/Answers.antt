@@ -1,6 +1,6 @@
-use Rattle.std.proofs.Common.{◌≡◌, ◌<◌, ◌≤◌, ◌+◌, ◌++◌, ℕ, [], take, length, ◌∙◌, arith, refl, true, false}
+use Rattle.std.proofs.Common.{◌≡◌, ◌<◌, [], take, length, ◌∙◌, arith, refl, true, false}
 use Rattle.std.proofs.lemmas.List.{length-take}
-use Rattle.rbgtree.proofs.Whole.{taken-none, taken-more, offset-bound, session-read, session-cut, session-failed, session-ended, piece-cause}
+use Rattle.rbgtree.proofs.Whole.{taken-more, offset-bound, session-read, session-cut, session-failed, session-ended}
 use Rattle.rbgtree.proofs.session.session.Goals as goal
 
 pub returns-in-Err-clause-table : goal.returns-in-Err-clause-table

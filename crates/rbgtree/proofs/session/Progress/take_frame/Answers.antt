@@ -1,6 +1,3 @@
-use Rattle.std.proofs.Common.{◌<◌, ◌+◌, ◌∷◌, [], ◌++◌, List, ℕ, Option, arith}
-use Rattle.frame_codec.specs.Frames.{Asked}
-use Rattle.rbgtree.specs.Session.{Began, Stands}
 use Rattle.rbgtree.proofs.Feeding.{HasFed, fed-more, fed-all, fed-whole, fed-bad}
 use Rattle.rbgtree.proofs.GoingOn.{go_more, go_whole, go_quota, go_unanswered, go_bad, go_untold}
 use Rattle.rbgtree.proofs.session.Progress.take_frame.Goals as goal

@@ -1,4 +1,4 @@
-use Rattle.std.proofs.Common.{◌≡◌, ◌≤◌, ◌<◌, ◌+◌, ◌-◌, ◌++◌, ◌∙◌, take, drop, length, List, ℕ, arith, length-drop}
+use Rattle.std.proofs.Common.{◌++◌, ◌∙◌, take, List, ℕ, arith, length-drop}
 use Rattle.frame_codec.specs.Frames.{Asked}
 use Rattle.rbgtree.specs.Session.{Began, Stands}
 use Rattle.rbgtree.proofs.Pieces.{taken_more, stopped_within}
