@@ -4,3 +4,5 @@ pub mod Drawers
 pub mod Paths
 pub mod Each
 pub mod Stock
+pub mod Ranges
+pub mod Planning

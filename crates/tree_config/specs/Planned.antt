@@ -24,14 +24,28 @@ pub record IsSource (s : SourcePlan) : Type 0 where
   pub startup_low : 1024 ≤ s.startup
   pub startup_high : s.startup ≤ 65536
 
--- an origin that fits the kind of node, among so many sources and nodes; the name of a seed file has `least` bytes at least
+-- a seed file whose name has so many bytes at least
+abbrev pub IsFile : ℕ → Origin → Type 0
+IsFile least (origin.SeedFile name) = (least ≤ length name) × (length name ≤ 255)
+IsFile least _ = ⊥
+
+-- one of so many sources
+abbrev pub IsSourceOf : ℕ → Origin → Type 0
+IsSourceOf count (origin.Source n) = n < count
+IsSourceOf count _ = ⊥
+
+-- one of so many nodes
+abbrev pub IsParentOf : ℕ → Origin → Type 0
+IsParentOf count (origin.Parent n) = n < count
+IsParentOf count _ = ⊥
+
+-- an origin that fits the kind of node, among so many sources and nodes
 abbrev pub Fits : ℕ → ℕ → ℕ → NodeKind → Origin → Type 0
-Fits least sources nodes Rbg1 (origin.SeedFile name) = (least ≤ length name) × (length name ≤ 255)
-Fits least sources nodes Rbg2 (origin.Source n) = n < sources
-Fits least sources nodes Rbg3Xor (origin.Source n) = n < sources
-Fits least sources nodes Rbg3Rs (origin.Source n) = n < sources
-Fits least sources nodes Child (origin.Parent n) = n < nodes
-Fits least sources nodes _ _ = ⊥
+Fits least sources nodes Rbg1 o = IsFile least o
+Fits least sources nodes Rbg2 o = IsSourceOf sources o
+Fits least sources nodes Rbg3Xor o = IsSourceOf sources o
+Fits least sources nodes Rbg3Rs o = IsSourceOf sources o
+Fits least sources nodes Child o = IsParentOf nodes o
 
 -- a node in range
 pub record IsNode (least sources nodes : ℕ) (n : NodePlan) : Type 0 where
