@@ -23,6 +23,8 @@ mod plans;
 mod row;
 mod rows;
 mod source;
+#[cfg(test)]
+mod tests;
 mod top;
 mod tree_plan;
 mod ways;
