@@ -1,0 +1,11 @@
+pub mod Names
+pub mod Fields
+pub mod Keys
+pub mod Source
+pub mod Node
+pub mod Top
+pub mod Rows
+pub mod Graph
+pub mod Tree
+pub mod Planned
+pub mod Walks

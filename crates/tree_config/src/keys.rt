@@ -1,0 +1,54 @@
+// The keys that a place of a configuration may have.
+ghost use Rattle.std.specs.Prelude.{◌≡◌};
+ghost use Rattle.toml.specs.View.{table_view};
+ghost use Rattle.tree_config.specs.Keys.{has_only, is_key, known_keys};
+
+use toml::Table;
+
+/// A kind of place. The keys of a source are by the version of the configuration.
+#[derive(Clone, Copy)]
+pub(crate) enum Level {
+    Top,
+    Source(u8),
+    Node,
+}
+
+// Whether a place of this kind has the key.
+fn is_known(key: &str, level: Level) -> bool
+    ensures { result ≡ is_key (known_keys level) key.now }
+{
+    match level {
+        Level::Top => key == "version" || key == "opening" || key == "source" || key == "node",
+        Level::Source(_) => {
+            key == "samples"
+                || key == "num"
+                || key == "den"
+                || key == "binary"
+                || key == "rct"
+                || key == "rct_a"
+                || key == "apt"
+                || key == "startup"
+                || key == "conditioner"
+        }
+        Level::Node => {
+            key == "kind"
+                || key == "drbg"
+                || key == "interval"
+                || key == "source"
+                || key == "parent"
+                || key == "seed"
+        }
+    }
+}
+
+/// Whether each key of a table is one that a place of this kind may have.
+pub(crate) fn has_only(table: &Table, level: Level) -> bool
+    ensures { result ≡ has_only (known_keys level) (table_view table.now) }
+{
+    for (key, _) in table.iter() {
+        if !is_known(key.as_str(), level) {
+            return false;
+        }
+    }
+    true
+}
