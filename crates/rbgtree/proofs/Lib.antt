@@ -6,3 +6,8 @@ pub mod GoingOn
 pub mod Pieces
 pub mod Whole
 pub mod Served
+pub mod Checking
+pub mod Tries
+pub mod Depths
+pub mod Openings
+pub mod Plans

@@ -5,4 +5,7 @@ pub mod Ends
 pub mod Answers
 pub mod Session
 pub mod Statuses
+pub mod Printed
+pub mod Check
+pub mod Commands
 pub mod Run

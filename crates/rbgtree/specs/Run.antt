@@ -1,11 +1,15 @@
 -- What the program does, by the status that it ends with, and what each status rests on.
--- This project's own; the seed is used as SP 800-90A Rev. 1, 10.1.2.3 uses entropy and nonce.
-use Rattle.std.specs.Prelude.{◌≡◌, ◌<◌, ℕ, List, [], ◌∷◌, length, take, drop, codes}
+-- This project's own; a seed is used as SP 800-90A Rev. 1, 10.1.2.3 uses entropy and nonce.
+use Rattle.std.specs.Prelude.{◌≡◌, ◌<◌, ◌⊎◌, ℕ, List, [], ◌∷◌, length, take, drop}
 use Rattle.std.specs.declared.option.Option.{Option}
 use Rattle.rbg_bytes.specs.Streams.{Rose}
 use Rattle.hmac_core.specs.declared.hash.Hash.TheVariants.{Sha256}
 use Rattle.hmac_drbg.specs.HmacDrbg.{instantiated, Working}
+use Rattle.tree_config.specs.Tree.{Tree}
 use Rattle.rbgtree.specs.Files.{Entries, BeginsFile, IsWholeFile}
+use Rattle.rbgtree.specs.Recordings.{Recordings}
+use Rattle.rbgtree.specs.Check.{IsPlanOf, HasNoPlan, HasChecked}
+use Rattle.rbgtree.specs.Commands.{IsSeedCommand, IsCheckCommand, IsNoCommand}
 use Rattle.rbgtree.specs.Session.{Session}
 use Rattle.rbgtree.specs.Statuses.{status_of}
 use Rattle.rbgtree.specs.declared.ends.End.{End}
@@ -15,6 +19,7 @@ use Rattle.rbgtree.specs.declared.status.Status.TheVariants.{Usage, Memory, Read
 -- what is told of the world, the input and the output at a moment, and their counts of faults
 pub record Outside : Type 0 where
   pub files : Option Entries
+  pub recordings : Option Recordings
   pub left : Option (List ℕ)
   pub out : Option (List ℕ)
   pub world : ℕ
@@ -26,10 +31,6 @@ pub record IsUntouched (before now : Outside) : Type 0 where
   pub left : now.left ≡ before.left
   pub out : now.out ≡ before.out
 
--- the words are `seed` and a name
-abbrev pub IsSeedCommand : List (List ℕ) → List ℕ → Type 0
-IsSeedCommand words name = words ≡ codes "seed" ∷ name ∷ []
-
 -- the working state that 48 bytes give: the first 32 are the entropy, the other 16 the nonce
 abbrev pub seeded : List ℕ → Working
 seeded seed = instantiated Sha256 (take 32 seed) (drop 32 seed) []
@@ -40,16 +41,28 @@ Served name before now end =
     (seed : List ℕ) × (length seed ≡ 48) × BeginsFile before.files name seed
     × Session Sha256 (seeded seed) 1048576 end before.left now.left before.out now.out
 
--- what was done, by the status
-abbrev pub Ran : List (List ℕ) → Outside → Outside → Status → Type 0
-Ran words before now Usage = ((name : List ℕ) → IsSeedCommand words name → ⊥) × IsUntouched before now
-Ran words before now Memory = (name : List ℕ) × IsSeedCommand words name × IsUntouched before now
-Ran words before now (OpenFault count) = (name : List ℕ) × IsSeedCommand words name × IsUntouched before now
-Ran words before now (SeedShort node have need) =
-    (name : List ℕ) × IsSeedCommand words name × IsUntouched before now
+-- what `seed` did, by the status; it opens no samples
+abbrev pub RanSeed : List ℕ → Outside → Outside → Status → Type 0
+RanSeed name before now Memory = IsUntouched before now
+RanSeed name before now (OpenFault count) = IsUntouched before now
+RanSeed name before now (SeedShort node have need) =
+    IsUntouched before now
     × (bytes : List ℕ) × IsWholeFile before.files name bytes × (length bytes < 48) × (node ≡ 0) × (have ≡ length bytes) × (need ≡ 48)
+RanSeed name before now status = (end : End) × (status ≡ status_of end) × Served name before now end
+
+-- what `check` did, by the status; it reads nothing from the input
+abbrev pub RanCheck : List ℕ → Outside → Outside → Status → Type 0
+RanCheck name before now status =
+    (now.left ≡ before.left)
+    × ((HasNoPlan before.files name status × (now.recordings ≡ before.recordings) × (now.out ≡ before.out))
+    ⊎ ((tree : Tree) × IsPlanOf before.files name tree × HasChecked tree before.recordings now.recordings before.out now.out status))
+
+-- what was done, by the words and the status; files stay as they are
+abbrev pub Ran : List (List ℕ) → Outside → Outside → Status → Type 0
 Ran words before now status =
-    (name : List ℕ) × IsSeedCommand words name × (end : End) × (status ≡ status_of end) × Served name before now end
+    ((name : List ℕ) × IsSeedCommand words name × (now.recordings ≡ before.recordings) × RanSeed name before now status)
+    ⊎ ((name : List ℕ) × IsCheckCommand words name × RanCheck name before now status)
+    ⊎ (IsNoCommand words × (status ≡ Usage) × (now.recordings ≡ before.recordings) × IsUntouched before now)
 
 -- no count of faults grew
 pub record IsFaultless (before now : Outside) : Type 0 where

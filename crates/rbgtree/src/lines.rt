@@ -1,8 +1,9 @@
 // The lines that say how the program ended, by their shapes.
-ghost use Rattle.std.specs.Prelude.{◌≡◌, ◌≤◌, ◌++◌, length, decimal};
-ghost use Rattle.rbgtree.specs.Statuses.{malformed_line, seed_short_line};
+ghost use Rattle.std.specs.Prelude.{◌≡◌, ◌≤◌, ◌+◌, ◌++◌, length, codes, decimal};
+ghost use Rattle.rbgtree.specs.Statuses.{malformed_line, seed_short_line, place_text, fault_text};
 
 use rbg_bytes::Line;
+use tree_config::{ConfigFault, Field, Place};
 
 /// A text.
 pub fn plain(text: &str) -> Line
@@ -53,4 +54,69 @@ pub fn seed_short(node: u16, have: u64, need: u64) -> Line
     line.number(need);
     line.text(" bytes\n");
     line
+}
+
+// Adds a place of a configuration, at most 27 bytes.
+fn add_place(line: &mut Line, place: Place)
+    requires { length line.old + 27 ≤ 512 }
+    ensures value { line.new ≡ line.old ++ place_text place }
+    ensures len { length line.new ≤ length line.old + 27 }
+{
+    match place {
+        Place::Top => line.text("top"),
+        Place::Source(number) => {
+            line.text("source ");
+            line.number(u64::from(number));
+        }
+        Place::Node(number) => {
+            line.text("node ");
+            line.number(u64::from(number));
+        }
+    }
+}
+
+// A field at fault, and where.
+fn bad_field(place: Place, field: Field) -> Line
+    ensures { result ≡ codes "configuration: " ++ fault_text (ConfigFault.BadField place field) ++ codes "\n" }
+{
+    let mut line = Line::new();
+    line.text("configuration: bad field ");
+    line.text(field.name());
+    line.text(" at ");
+    add_place(&mut line, place);
+    line.text("\n");
+    line
+}
+
+/// What is wrong with a configuration.
+pub fn config_fault(fault: ConfigFault) -> Line
+    ensures { result ≡ codes "configuration: " ++ fault_text fault ++ codes "\n" }
+{
+    match fault {
+        ConfigFault::TooLarge { .. } => plain("configuration: too large\n"),
+        ConfigFault::BadToml => plain("configuration: not TOML\n"),
+        ConfigFault::BadField { place, field } => bad_field(place, field),
+        ConfigFault::TooMany { nodes: true, .. } => plain("configuration: too many nodes\n"),
+        ConfigFault::TooMany { nodes: false, .. } => plain("configuration: too many sources\n"),
+        ConfigFault::NoSuchParent { node, .. } => {
+            numbered(
+                "configuration: no such parent at node ",
+                u64::from(node),
+                "\n",
+            )
+        }
+        ConfigFault::Cycle { node } => {
+            numbered("configuration: cycle at node ", u64::from(node), "\n")
+        }
+        ConfigFault::TooDeep { node } => {
+            numbered("configuration: too deep at node ", u64::from(node), "\n")
+        }
+        ConfigFault::StrengthRises { node, .. } => {
+            numbered(
+                "configuration: strength rises at node ",
+                u64::from(node),
+                "\n",
+            )
+        }
+    }
 }

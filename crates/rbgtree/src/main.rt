@@ -1,6 +1,7 @@
 //! A random bit generator that answers request frames.
 //!
 //! - `top`: what each command does, `run`;
+//! - `check`: one start of each source of a configuration, and `printed`, the lines that are printed of it;
 //! - `session`: one session, in which frames are read, answered and written one after another;
 //! - `answers`: the reply frame to one request;
 //! - `ends`: how a session ends;
@@ -9,10 +10,12 @@
 #![tactic(auto)]
 
 mod answers;
+mod check;
 mod ends;
 mod host;
 mod lines;
 mod memory_world;
+mod printed;
 mod session;
 mod status;
 mod top;

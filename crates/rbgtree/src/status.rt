@@ -4,8 +4,9 @@ ghost use Rattle.rbg_bytes.specs.Streams.{HasCause, TakesAll};
 ghost use Rattle.rbgtree.specs.Statuses.{number_of, line_of, status_of};
 
 use crate::ends::End;
-use crate::lines::{malformed, numbered, plain, seed_short};
+use crate::lines::{config_fault, malformed, numbered, plain, seed_short};
 use rbg_bytes::{ByteSink, Failed, Line};
+use tree_config::ConfigFault;
 
 /// The commands, as the line on standard error names them.
 const USAGE: &str =
@@ -14,10 +15,12 @@ const USAGE: &str =
 /// How the program ended.
 #[derive(Clone, Copy, Debug, PartialEq, Eq)]
 pub enum Status {
-    /// The input was read to its end, and each frame of it was answered.
+    /// The work was done: the input was read to its end and each frame of it answered, or each source was started.
     Done,
     /// The words are no command that is served.
     Usage,
+    /// The configuration has this fault.
+    Config(ConfigFault),
     /// No frame goes on with the byte at this place of the input; `why` is the number of the field that it stands in.
     Malformed { offset: u64, why: u8 },
     /// The input ended within a frame, after so many bytes.
@@ -26,7 +29,7 @@ pub enum Status {
     ReadFault { count: u64 },
     /// The output failed, so often by now.
     WriteFault { count: u64 },
-    /// A file could not be read; the world has failed so often by now.
+    /// A file could not be read, or samples could not be opened; the world has failed so often by now.
     OpenFault { count: u64 },
     /// No memory was left.
     Memory,
@@ -34,6 +37,8 @@ pub enum Status {
     Quota { frames: u64 },
     /// The seed file of this node has fewer bytes than it needs.
     SeedShort { node: u16, have: u64, need: u64 },
+    /// The start of this source was refused, and of none before it.
+    SourceRefused { source: u8 },
 }
 
 impl Status {
@@ -44,6 +49,7 @@ impl Status {
         match self {
             Status::Done => 0,
             Status::Usage => 1,
+            Status::Config(_) => 2,
             Status::Malformed { .. } | Status::Cut { .. } => 3,
             Status::ReadFault { .. } => 4,
             Status::WriteFault { .. } => 5,
@@ -51,6 +57,7 @@ impl Status {
             Status::Memory => 7,
             Status::Quota { .. } => 9,
             Status::SeedShort { .. } => 10,
+            Status::SourceRefused { .. } => 11,
         }
     }
 
@@ -74,6 +81,7 @@ impl Status {
         match *self {
             Status::Done => Line::new(),
             Status::Usage => plain(USAGE),
+            Status::Config(fault) => config_fault(fault),
             Status::Malformed { offset, why } => malformed(offset, why),
             Status::Cut { offset } => numbered("input cut at ", offset, "\n"),
             Status::ReadFault { count } => numbered("read fault ", count, "\n"),
@@ -82,6 +90,9 @@ impl Status {
             Status::Memory => plain("out of memory\n"),
             Status::Quota { frames } => numbered("quota of ", frames, " frames\n"),
             Status::SeedShort { node, have, need } => seed_short(node, have, need),
+            Status::SourceRefused { source } => {
+                numbered("source ", u64::from(source), " refused\n")
+            }
         }
     }
 

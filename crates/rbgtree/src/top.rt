@@ -1,19 +1,26 @@
 // What each command does.
-ghost use Rattle.std.specs.Prelude.{◌≡◌, ◌≤◌, ◌<◌, ◌∷◌, [], List, ℕ, length, take, map, codes, string_bytes, IfSome, IfNone, IfOk};
+ghost use Rattle.std.specs.Prelude.{◌≡◌, ◌≤◌, ◌<◌, ◌∷◌, [], List, ℕ, length, take, map, codes, string_bytes, IfSome, IfNone, IfOk, IfErr};
 ghost use Rattle.rbg_bytes.specs.Streams.{HasCause};
 ghost use Rattle.rbgtree.specs.Files.{BeginsFile, IsWholeFile};
-ghost use Rattle.rbgtree.specs.Run.{IsSeedCommand, Ran, HasStatusCause};
+ghost use Rattle.rbgtree.specs.Commands.{IsCommand, IsNoCommand};
+ghost use Rattle.rbgtree.specs.Check.{IsPlanOf, HasNoPlan, HasPlanCause, HasChecked, HasCheckCause};
+ghost use Rattle.rbgtree.specs.Run.{Ran, RanSeed, RanCheck, HasStatusCause};
 
 use crate::answers::{HEAD_LEN, MAX_PAYLOAD};
+use crate::check::{BLANK, MAX_SOURCES, NotOpened, first_refused, open_all, print, try_all};
 use crate::session::session;
 use crate::status::Status;
 use crate::world::World;
 use hmac_drbg::{Hash, HmacDrbg};
 use rbg_bytes::{ByteSink, ByteSource, Failed};
 use std::alloc::{AllocError, Global};
+use tree_config::{PlanRefusal, TreePlan};
 
 /// The bytes of a seed: 32 of entropy and 16 of nonce.
 const SEED_LEN: usize = 48;
+
+/// The bytes of a configuration that are read: the most that one may have, and one more.
+const CONFIG_LEN: usize = 65_537;
 
 /// The bytes that one read of the input asks for.
 const PIECE_LEN: usize = 65_536;
@@ -21,31 +28,40 @@ const PIECE_LEN: usize = 65_536;
 /// The most frames of a session.
 const MAX_FRAMES: u64 = 1_048_576;
 
-// The name of the seed file, where the words are `seed FILE`.
-fn seed_name(words: &[String]) -> Option<&str>
-    ensures some { IfSome result (λ name. IsSeedCommand (map string_bytes words.now) name.now) }
-    ensures none { IfNone result ((name : List ℕ) → IsSeedCommand (map string_bytes words.now) name → ⊥) }
+/// A command, with the name of the file that it begins with.
+enum Command<'a> {
+    Seed(&'a str),
+    Check(&'a str),
+}
+
+// The command that the words are.
+fn command_of(words: &[String]) -> Option<Command<'_>>
+    ensures some { IfSome result (IsCommand (map string_bytes words.now)) }
+    ensures none { IfNone result (IsNoCommand (map string_bytes words.now)) }
 {
     let [command, name] = words else {
         return None;
     };
-    if command.as_str() == "seed" {
-        return Some(name.as_str());
+    match command.as_str() {
+        "seed" => Some(Command::Seed(name.as_str())),
+        "check" => Some(Command::Check(name.as_str())),
+        _ => None,
     }
-    None
 }
 
-// Reads a seed from the front of a file, and says how many bytes there were.
-fn read_seed<W: World>(world: &mut W, name: &str, seed: &mut [u8]) -> Result<usize, Failed>
-    requires { length seed.old ≡ 48 }
-    ensures bound { IfOk result (λ have. have ≤ 48) }
-    ensures full { IfOk result (λ have. have ≡ 48 → BeginsFile (W.files world.old) name.now seed.new) }
-    ensures short { IfOk result (λ have. have < 48 → IsWholeFile (W.files world.old) name.now (take have seed.new)) }
+// Reads the front of a file, as many bytes as fit, and says how many there were.
+fn read_front<W: World>(world: &mut W, name: &str, front: &mut [u8]) -> Result<usize, Failed>
+    requires { 0 < length front.old }
+    ensures bound { IfOk result (λ have. have ≤ length front.old) }
+    ensures full { IfOk result (λ have. have ≡ length front.old → BeginsFile (W.files world.old) name.now front.new) }
+    ensures short { IfOk result (λ have. have < length front.old → IsWholeFile (W.files world.old) name.now (take have front.new)) }
+    ensures files { W.files world.new ≡ W.files world.old }
+    ensures recordings { W.recordings world.new ≡ W.recordings world.old }
     ensures cause { HasCause (W.faults world.old) (W.faults world.new) result }
 {
     let mut have = 0;
-    'reads: while have < seed.len() {
-        let count = world.read_file(name, have as u64, &mut seed[have..])?;
+    'reads: while have < front.len() {
+        let count = world.read_file(name, have as u64, &mut front[have..])?;
         if count == 0 {
             return Ok(have);
         }
@@ -63,33 +79,30 @@ fn buffers(alloc: Global) -> Result<(Vec<u8>, Vec<u8>), AllocError>
     Ok((piece, reply))
 }
 
-/// Does what the words say, and says how that ended. The words are `seed FILE`: the first 48 bytes of FILE instantiate
-/// HMAC_DRBG over SHA-256 (32 of entropy, 16 of nonce), and the frames of the input are answered from it to the output, at most
-/// 1,048,576 of them. All memory is taken before the first read.
-pub fn run<W: World, I: ByteSource, O: ByteSink>(
+// Answers the frames of the input from the DRBG that the first 48 bytes of a file give.
+fn run_seed<W: World, I: ByteSource, O: ByteSink>(
     alloc: Global,
-    words: &[String],
+    name: &str,
     world: &mut W,
     input: &mut I,
     output: &mut O,
 ) -> Status
-    ensures ran { Ran (map string_bytes words.now)
-        (record { files = W.files world.old; left = I.left input.old; out = O.out output.old; world = W.faults world.old; input = I.faults input.old; output = O.faults output.old })
-        (record { files = W.files world.new; left = I.left input.new; out = O.out output.new; world = W.faults world.new; input = I.faults input.new; output = O.faults output.new })
+    ensures ran { RanSeed name.now
+        (record { files = W.files world.old; recordings = W.recordings world.old; left = I.left input.old; out = O.out output.old; world = W.faults world.old; input = I.faults input.old; output = O.faults output.old })
+        (record { files = W.files world.new; recordings = W.recordings world.new; left = I.left input.new; out = O.out output.new; world = W.faults world.new; input = I.faults input.new; output = O.faults output.new })
         result }
+    ensures files { W.files world.new ≡ W.files world.old }
+    ensures recordings { W.recordings world.new ≡ W.recordings world.old }
     ensures cause { HasStatusCause
-        (record { files = W.files world.old; left = I.left input.old; out = O.out output.old; world = W.faults world.old; input = I.faults input.old; output = O.faults output.old })
-        (record { files = W.files world.new; left = I.left input.new; out = O.out output.new; world = W.faults world.new; input = I.faults input.new; output = O.faults output.new })
+        (record { files = W.files world.old; recordings = W.recordings world.old; left = I.left input.old; out = O.out output.old; world = W.faults world.old; input = I.faults input.old; output = O.faults output.old })
+        (record { files = W.files world.new; recordings = W.recordings world.new; left = I.left input.new; out = O.out output.new; world = W.faults world.new; input = I.faults input.new; output = O.faults output.new })
         result }
 {
-    let Some(name) = seed_name(words) else {
-        return Status::Usage;
-    };
     let Ok((mut piece, mut buffer)) = buffers(alloc) else {
         return Status::Memory;
     };
     let mut seed = [0u8; SEED_LEN];
-    match read_seed(world, name, &mut seed) {
+    match read_front(world, name, &mut seed) {
         Err(_) => {
             return Status::OpenFault {
                 count: world.fault_count(),
@@ -107,4 +120,112 @@ pub fn run<W: World, I: ByteSource, O: ByteSink>(
     }
     let drbg = HmacDrbg::instantiate(Hash::Sha256, &seed[..32], &seed[32..], &[]);
     Status::of(session(drbg, MAX_FRAMES, &mut piece, &mut buffer, input, output))
+}
+
+// The plan of the configuration in a file, which is read into this buffer, or how the program ends without one.
+fn plan_in<W: World>(
+    alloc: Global,
+    name: &str,
+    world: &mut W,
+    text: &mut [u8],
+) -> Result<TreePlan, Status>
+    requires { length text.old ≡ 65537 }
+    ensures plan { IfOk result (IsPlanOf (W.files world.old) name.now) }
+    ensures ended { IfErr result (HasNoPlan (W.files world.old) name.now) }
+    ensures files { W.files world.new ≡ W.files world.old }
+    ensures recordings { W.recordings world.new ≡ W.recordings world.old }
+    ensures cause { HasPlanCause (W.faults world.old) (W.faults world.new) result }
+{
+    let Ok(have) = read_front(world, name, text) else {
+        return Err(Status::OpenFault {
+            count: world.fault_count(),
+        });
+    };
+    match TreePlan::read(alloc, &text[..have]) {
+        Ok(plan) => Ok(plan),
+        Err(PlanRefusal::Fault(fault)) => Err(Status::Config(fault)),
+        Err(PlanRefusal::OutOfMemory) => Err(Status::Memory),
+    }
+}
+
+// The plan of the configuration in a file, or how the program ends without one.
+fn read_plan<W: World>(alloc: Global, name: &str, world: &mut W) -> Result<TreePlan, Status>
+    ensures plan { IfOk result (IsPlanOf (W.files world.old) name.now) }
+    ensures ended { IfErr result (HasNoPlan (W.files world.old) name.now) }
+    ensures files { W.files world.new ≡ W.files world.old }
+    ensures recordings { W.recordings world.new ≡ W.recordings world.old }
+    ensures cause { HasPlanCause (W.faults world.old) (W.faults world.new) result }
+{
+    let Ok(mut text) = vec![in alloc; 0u8; CONFIG_LEN] else {
+        return Err(Status::Memory);
+    };
+    plan_in(alloc, name, world, &mut text)
+}
+
+// Starts each source of a plan once, and prints a line of each source and of each node.
+fn check<W: World, O: ByteSink>(
+    alloc: Global,
+    plan: &TreePlan,
+    world: &mut W,
+    output: &mut O,
+) -> Status
+    ensures checked { HasChecked plan.now (W.recordings world.old) (W.recordings world.new) (O.out output.old) (O.out output.new) result }
+    ensures files { W.files world.new ≡ W.files world.old }
+    ensures cause { HasCheckCause (W.faults world.old) (W.faults world.new) (O.faults output.old) (O.faults output.new) result }
+{
+    let opened = match open_all(alloc, world, plan) {
+        Ok(opened) => opened,
+        Err(NotOpened::OutOfMemory) => return Status::Memory,
+        Err(NotOpened::Fault) => {
+            return Status::OpenFault {
+                count: world.fault_count(),
+            };
+        }
+    };
+    let count = usize::from(plan.sources());
+    let mut lines = [BLANK; MAX_SOURCES];
+    try_all(plan, opened, &mut lines);
+    let lines = &lines[..count];
+    if print(plan, lines, output).is_err() {
+        return Status::WriteFault {
+            count: output.fault_count(),
+        };
+    }
+    match first_refused(lines) {
+        Some(source) => Status::SourceRefused { source },
+        None => Status::Done,
+    }
+}
+
+/// Does what the words say, and says how that ended.
+///
+/// - `seed FILE`: the first 48 bytes of FILE instantiate HMAC_DRBG over SHA-256 (32 of entropy, 16 of nonce), and the frames of
+///   the input are answered from it to the output, at most 1,048,576 of them. All memory is taken before the first read.
+/// - `check CONFIG`: the samples of each source of the configuration are opened, then each source is started once, in order,
+///   then a line is printed of each source and of each node. Nothing is read from the input.
+pub fn run<W: World, I: ByteSource, O: ByteSink>(
+    alloc: Global,
+    words: &[String],
+    world: &mut W,
+    input: &mut I,
+    output: &mut O,
+) -> Status
+    ensures ran { Ran (map string_bytes words.now)
+        (record { files = W.files world.old; recordings = W.recordings world.old; left = I.left input.old; out = O.out output.old; world = W.faults world.old; input = I.faults input.old; output = O.faults output.old })
+        (record { files = W.files world.new; recordings = W.recordings world.new; left = I.left input.new; out = O.out output.new; world = W.faults world.new; input = I.faults input.new; output = O.faults output.new })
+        result }
+    ensures files { W.files world.new ≡ W.files world.old }
+    ensures cause { HasStatusCause
+        (record { files = W.files world.old; recordings = W.recordings world.old; left = I.left input.old; out = O.out output.old; world = W.faults world.old; input = I.faults input.old; output = O.faults output.old })
+        (record { files = W.files world.new; recordings = W.recordings world.new; left = I.left input.new; out = O.out output.new; world = W.faults world.new; input = I.faults input.new; output = O.faults output.new })
+        result }
+{
+    match command_of(words) {
+        Some(Command::Seed(name)) => run_seed(alloc, name, world, input, output),
+        Some(Command::Check(name)) => match read_plan(alloc, name, world) {
+            Ok(plan) => check(alloc, &plan, world, output),
+            Err(status) => status,
+        },
+        None => Status::Usage,
+    }
 }

@@ -1,30 +1,14 @@
-use Rattle.std.proofs.Common.{◌≡◌, ℕ, List, [], length, take, drop, subst, ap, ◌∙◌, arith}
-use Rattle.std.proofs.lemmas.List.{take_all, length-drop}
-use Rattle.hmac_core.specs.declared.hash.Hash.{Hash}
-use Rattle.hmac_core.specs.declared.hash.Hash.TheVariants.{Sha256}
-use Rattle.hmac_drbg.specs.HmacDrbg.{Working, instantiated}
-use Rattle.hmac_drbg.specs.State.{working}
-use Rattle.rbgtree.specs.Session.{Session}
-use Rattle.rbgtree.specs.Run.{seeded}
-use Rattle.rbgtree.proofs.Served.{ran_served, cause_served}
+use Rattle.std.proofs.Common.{List, ℕ, refl, subst, map, inl, inr}
+use Rattle.std.specs.Prelude.{Option, string_bytes}
+use Rattle.rbgtree.specs.Check.{HasChecked}
+use Rattle.rbgtree.specs.Commands.{IsCommand}
+use Rattle.rbgtree.specs.Recordings.{Recordings}
+use Rattle.rbgtree.specs.declared.top.Command.{Command}
 use Rattle.rbgtree.proofs.top.run.Goals as goal
 
-pub returns-clause-ran : goal.returns-clause-ran
-returns-clause-ran g c =
-    let seed = c.read_seed.new.seed in
-    let len : length c.read_seed.new.seed ≡ 48 = c.read_seed.auto.seed in
-    let full : c.in-Ok-read_seed.have ≡ 48 = omega (arith, c.if-have-lt-SEED_LEN.false, c.in-Ok-read_seed.ensures.bound) in
-    let nonce : take 16 (drop 32 c.read_seed.new.seed) ≡ drop 32 c.read_seed.new.seed = take_all 16 (drop 32 c.read_seed.new.seed) (omega (arith, length-drop 32 c.read_seed.new.seed, len)) in
-    let state : working c.instantiate-drbg.result ≡ seeded c.read_seed.new.seed =
-    c.instantiate-drbg.ensures.state ∙ ap (λ (n : List ℕ). instantiated Sha256 (take 32 seed) n []) nonce in
-    let table = subst (λ (h : Hash). Session h (working c.instantiate-drbg.result) 1048576 c.session.result (g.I.ByteSource.left c.args.input.now) (g.I.ByteSource.left c.session.new.input) (g.O.ByteSink.out c.args.output.now) (g.O.ByteSink.out c.session.new.output))
-    c.instantiate-drbg.ensures.hash c.session.ensures.table in
-    rw (c.of.ensures) (ran_served _ _ _ c.in-Some.name.now c.session.result c.in-Some.ensures.some (
-      seed,
-      len,
-      c.in-Ok-read_seed.ensures.full full,
-      subst (λ (w : Working). Session Sha256 w 1048576 c.session.result (g.I.ByteSource.left c.args.input.now) (g.I.ByteSource.left c.session.new.input) (g.O.ByteSink.out c.args.output.now) (g.O.ByteSink.out c.session.new.output)) state table,
-    ))
-
-pub returns-clause-cause : goal.returns-clause-cause
-returns-clause-cause g c = rw (c.of.ensures) (cause_served _ _ c.session.result c.in-Ok-read_seed.ensures.cause.kept c.session.ensures.read c.session.ensures.write)
+pub returns-in-Ok-clause-ran : goal.returns-in-Ok-clause-ran
+returns-in-Ok-clause-ran g c =
+    let checked = subst (λ (recordings : Option Recordings). HasChecked c.in-Ok.plan recordings (g.W.World.recordings c.check.new.world) (g.O.ByteSink.out c.args.output.now) (g.O.ByteSink.out c.check.new.output) c.check.result)
+    c.in-Ok.ensures.recordings c.check.ensures.checked in
+    let command = subst (λ (k : Command). IsCommand (map string_bytes c.args.words.now) k) c.in-Some-Check.field-0-is c.in-Some-Check.ensures.some in
+    inr (inl (c.in-Some-Check.name.now, command, (refl, inr (c.in-Ok.plan, c.in-Ok.ensures.plan, checked))))

@@ -1,0 +1,199 @@
+// What `check` does with a plan: the samples of its sources are opened, each source is started once, and a line is printed of
+// each source and of each node.
+ghost use Rattle.std.specs.Prelude.{◌≡◌, ◌≤◌, ◌<◌, [], length, take, map, IfOk, OnErr, Some, slice_get};
+ghost use Rattle.rbg_bytes.specs.Streams.{HasCause, TakesAll};
+ghost use Rattle.tree_config.specs.Planned.{IsSource};
+ghost use Rattle.tree_config.specs.Tree.{parents};
+ghost use Rattle.tree_config.specs.Graph.{HasDepth};
+ghost use Rattle.tree_config.specs.declared.plan.SourcePlan.{SourcePlan};
+ghost use Rattle.rbgtree.specs.Check.{OpensAll, HasOpenCause, IsTried, AreTried, row_of, first_refused, printed};
+ghost use Rattle.rbgtree.specs.Printed.{test_number, error_answer, answer_of, line_of_node, node_lines};
+
+use crate::printed::{Answer, NodeLine, SourceLine, print_node, print_sources};
+use crate::world::World;
+use conditioner::need;
+use entropy_source::{Cause, EntropySource, SourceRefusal, SourceRow};
+use health_tests::Test;
+use rbg_bytes::{ByteSink, Failed};
+use sample_source::Samples;
+use std::alloc::Global;
+use tree_config::{SourcePlan, TreePlan};
+
+/// The most sources of a plan.
+pub const MAX_SOURCES: usize = 4;
+
+/// A line of which nothing is filled in yet.
+pub const BLANK: SourceLine = SourceLine {
+    number: 0,
+    rct: 0,
+    window: 0,
+    apt: 0,
+    startup: 0,
+    block: 0,
+    taken: 0,
+    answer: Answer {
+        code: 0,
+        a: 0,
+        b: 0,
+    },
+};
+
+/// Why the samples of a plan were not opened.
+pub enum NotOpened {
+    Fault,
+    OutOfMemory,
+}
+
+fn test_number(test: Test) -> u64
+    ensures { result ≡ test_number test }
+{
+    match test {
+        Test::Repetition => 1,
+        Test::Proportion => 2,
+    }
+}
+
+// The code and the two numbers of a source that isn't running.
+fn error_answer(cause: Cause) -> Answer
+    ensures { result ≡ error_answer cause }
+{
+    let (a, b) = match cause {
+        Cause::NotStarted => (0, 0),
+        Cause::Alarm { index, test } => (test_number(test), index),
+    };
+    Answer { code: 11, a, b }
+}
+
+// The code and the two numbers of a start of the source with this number.
+fn answer_of(number: u8, started: Result<(), SourceRefusal>) -> Answer
+    ensures { result ≡ answer_of number started }
+{
+    let source = u64::from(number);
+    let (code, a, b) = match started {
+        Ok(()) => (0, 0, 0),
+        Err(SourceRefusal::SourceSpent { taken, need }) => (10, taken, need),
+        Err(SourceRefusal::InError { cause }) => return error_answer(cause),
+        Err(SourceRefusal::SourceFault { count }) => (12, count, source),
+        Err(SourceRefusal::HealthFailed { index, test }) => (13, index, test_number(test)),
+        Err(SourceRefusal::WantOfEntropy { missing }) => (14, u64::from(missing), source),
+    };
+    Answer { code, a, b }
+}
+
+// What is set of a source by its plan.
+fn row_of(plan: &SourcePlan) -> SourceRow
+    ensures { result ≡ row_of plan.now }
+{
+    SourceRow {
+        num: plan.num,
+        den: plan.den,
+        cutoffs: plan.cutoffs,
+        startup: plan.startup,
+        cond: plan.cond,
+    }
+}
+
+// Starts a source once, and says what is printed of it.
+fn try_source<S: Samples>(number: u8, plan: &SourcePlan, samples: S) -> SourceLine
+    requires { IsSource plan.now }
+    ensures { IsTried number plan.now (S.told samples) result }
+{
+    let mut source = EntropySource::open(samples, row_of(plan));
+    let answer = answer_of(number, source.start());
+    SourceLine {
+        number,
+        rct: plan.cutoffs.rct(),
+        window: plan.cutoffs.window(),
+        apt: plan.cutoffs.apt(),
+        startup: plan.startup,
+        block: need(plan.cond, plan.num, plan.den),
+        taken: source.taken(),
+        answer,
+    }
+}
+
+/// Starts each source of the plan once, over these samples, and fills in the lines that are printed of them.
+pub fn try_all<S: Samples>(plan: &TreePlan, opened: Vec<S>, lines: &mut [SourceLine; MAX_SOURCES])
+    requires samples { length opened.items ≡ length plan.now.sources }
+    requires few { length plan.now.sources ≤ 4 }
+    ensures tried { AreTried plan.now.sources (map S.told opened.items) (take (length plan.now.sources) lines.new) }
+{
+    let mut number = 0u8;
+    for samples in opened {
+        lines[usize::from(number)] = try_source(number, plan.source(number), samples);
+        number += 1;
+    }
+}
+
+/// Opens the samples of each source of the plan, in order.
+pub fn open_all<W: World>(
+    alloc: Global,
+    world: &mut W,
+    plan: &TreePlan,
+) -> Result<Vec<W::Samples>, NotOpened>
+    ensures opened { IfOk result (λ opened. OpensAll (W.recordings world.old) (W.recordings world.new) (map (λ (s : SourcePlan). s.samples) plan.now.sources) (map W.Samples.told opened.items)) }
+    ensures count { IfOk result (λ opened. length opened.items ≡ length plan.now.sources) }
+    ensures files { W.files world.new ≡ W.files world.old }
+    ensures cause { HasOpenCause (W.faults world.old) (W.faults world.new) result }
+{
+    let mut opened = Vec::new(alloc);
+    for number in 0..plan.sources() {
+        let Ok(samples) = world.open_samples(plan.source(number).samples.as_str()) else {
+            return Err(NotOpened::Fault);
+        };
+        match opened.push(samples) {
+            Ok(()) => {}
+            Err(_) => return Err(NotOpened::OutOfMemory),
+        }
+    }
+    Ok(opened)
+}
+
+/// The number of the first source whose start was refused.
+pub fn first_refused(lines: &[SourceLine]) -> Option<u8>
+    ensures { result ≡ first_refused lines.now }
+{
+    for line in lines {
+        if line.answer.code != 0 {
+            return Some(line.number);
+        }
+    }
+    None
+}
+
+// Prints a line of each node.
+fn print_nodes<O: ByteSink>(plan: &TreePlan, output: &mut O) -> Result<(), Failed>
+    ensures bytes { TakesAll (O.out output.old) (O.out output.new) result (node_lines plan.now) }
+    ensures cause { HasCause (O.faults output.old) (O.faults output.new) result }
+{
+    for number in 0..plan.nodes() {
+        let node = plan.node(number);
+        let line = NodeLine {
+            number,
+            kind: node.kind,
+            drbg: node.drbg,
+            interval: node.interval,
+            depth: plan.depth(number),
+        };
+        match print_node(&line, output) {
+            Ok(()) => {}
+            Err(failed) => return Err(failed),
+        }
+    }
+    Ok(())
+}
+
+/// Prints a line of each source and of each node.
+pub fn print<O: ByteSink>(
+    plan: &TreePlan,
+    lines: &[SourceLine],
+    output: &mut O,
+) -> Result<(), Failed>
+    ensures bytes { TakesAll (O.out output.old) (O.out output.new) result (printed plan.now lines.now) }
+    ensures cause { HasCause (O.faults output.old) (O.faults output.new) result }
+{
+    match print_sources(lines, output) {
+        Ok(()) => print_nodes(plan, output),
+        Err(failed) => Err(failed),
+    }
+}
