@@ -1,13 +1,13 @@
 -- A text has at most one plan or fault, and a node one depth.
-use Rattle.std.proofs.Common.{◌≡◌, ℕ, ◌<◌, List, Option, Some, Result, Ok, Err, refl, sym, ap, ◌∙◌, arith, subst, inl, inr}
+use Rattle.std.proofs.Common.{◌≡◌, ℕ, List, Option, Result, Ok, Err, refl, sym, ap, ◌∙◌, arith, subst, inl, inr}
 use Rattle.std.proofs.lemmas.Bool.{cases_lt}
 use Rattle.std.proofs.lemmas.Option.{same_Some}
 use Rattle.tree_config.specs.declared.fault.ConfigFault.{ConfigFault}
 use Rattle.tree_config.specs.declared.fault.ConfigFault.TheVariants.{TooLarge, BadToml, BadField, TooMany, NoSuchParent, Cycle, TooDeep, StrengthRises}
 use Rattle.tree_config.specs.declared.plan.NodePlan.{NodePlan}
 use Rattle.tree_config.specs.Graph.{parent_at, HasDepth, IsLeast}
-use Rattle.tree_config.specs.Rows.{Rows, rows_of, depth_limit}
-use Rattle.tree_config.specs.Tree.{Tree, Plan, GraphFault, IsTree, Rises, parents, strength_at, tree_of}
+use Rattle.tree_config.specs.Rows.{Rows, rows_of}
+use Rattle.tree_config.specs.Tree.{Tree, Plan, GraphFault, IsTree, parents, strength_at, tree_of}
 use Rattle.tree_config.specs.Planned.{IsPlanned}
 use Rattle.tree_config.proofs.Paths.{one_depth}
 use Rattle.tree_config.proofs.Planning.{planned}
