@@ -6,3 +6,4 @@ pub mod Each
 pub mod Stock
 pub mod Ranges
 pub mod Planning
+pub mod Once

@@ -1,6 +1,6 @@
--- The names of kinds of node, of kinds of DRBG, of conditioning components and of fields.
+-- The names of kinds of node, of kinds of DRBG, of conditioning components, of fields and of places.
 -- This project's own.
-use Rattle.std.specs.Prelude.{ℕ, Bool, true, false, List, [], ◌∷◌, map, codes}
+use Rattle.std.specs.Prelude.{ℕ, Bool, true, false, List, [], ◌∷◌, ◌++◌, map, codes, decimal}
 use Rattle.rbg_bytes.specs.declared.cond.Cond.{Cond}
 use Rattle.rbg_bytes.specs.declared.cond.Cond.TheVariants as conds
 use Rattle.rbg_bytes.specs.declared.kind.Kind.{Kind}
@@ -9,6 +9,8 @@ use Rattle.tree_config.specs.declared.plan.NodeKind.{NodeKind}
 use Rattle.tree_config.specs.declared.plan.NodeKind.TheVariants as nodes
 use Rattle.tree_config.specs.declared.fault.Field.{Field}
 use Rattle.tree_config.specs.declared.fault.Field.TheVariants as fields
+use Rattle.tree_config.specs.declared.fault.Place.{Place}
+use Rattle.tree_config.specs.declared.fault.Place.TheVariants as places
 
 abbrev pub node_kind_text : NodeKind → List ℕ
 node_kind_text nodes.Rbg1 = codes "rbg1"
@@ -50,6 +52,12 @@ field_text fields.Source = codes "Source"
 field_text fields.Parent = codes "Parent"
 field_text fields.Seed = codes "Seed"
 field_text fields.Unknown = codes "Unknown"
+
+-- a place: its top, or a source or a node by its number
+abbrev pub place_text : Place → List ℕ
+place_text places.Top = codes "top"
+place_text (places.Source j) = codes "source " ++ decimal j
+place_text (places.Node i) = codes "node " ++ decimal i
 
 -- each value behind its name
 abbrev pub by_name : {A : Type 0} → (A → List ℕ) → List A → List (List ℕ × A)

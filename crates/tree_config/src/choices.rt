@@ -12,7 +12,7 @@ use crate::plan::NodeKind;
 use rbg_bytes::{Cond, Kind};
 use toml::{Table, Value};
 
-// A name of a conditioning component. Every version has the same ones so far.
+// A name of a conditioning component. Version 1 is the only one, and has both.
 fn conditioner_within(value: &Value, version: u8) -> Option<Cond>
     ensures { result ≡ one_of (cond_names version) (view value.now) }
 {

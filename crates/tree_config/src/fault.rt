@@ -1,6 +1,6 @@
 // What can be wrong with a configuration, and where.
-ghost use Rattle.std.specs.Prelude.{◌≡◌, ◌≤◌, length};
-ghost use Rattle.tree_config.specs.Names.{field_text};
+ghost use Rattle.std.specs.Prelude.{◌≡◌, ◌≤◌, length, Some};
+ghost use Rattle.tree_config.specs.Names.{field_text, place_text};
 
 use std::fmt;
 use std::fmt::{Display, Formatter, Write};
@@ -115,12 +115,16 @@ fn entries(nodes: bool) -> &'static str {
 }
 
 impl Display for Field {
+    ghost output = { λ field. Some (field_text field) };
+
     fn fmt<W: Write>(&self, f: &mut Formatter<W>) -> fmt::Result {
         f.write_str(self.name())
     }
 }
 
 impl Display for Place {
+    ghost output = { λ place. Some (place_text place) };
+
     fn fmt<W: Write>(&self, f: &mut Formatter<W>) -> fmt::Result {
         match self {
             Place::Top => f.write_str("top"),

@@ -45,6 +45,7 @@ fn depths(alloc: Global, nodes: &[NodePlan], limit: u8) -> Result<Vec<u8>, PlanR
     Ok(depths)
 }
 
+// The strength of node n in bits.
 fn strength(nodes: &[NodePlan], n: usize) -> u16
     requires { n < length nodes.now }
     ensures { result ≡ strength_at nodes.now n }

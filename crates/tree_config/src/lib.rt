@@ -7,7 +7,8 @@
 //! - `document`, `rows`, `top`, `source`, `node`: reading a text, place by place and key by key;
 //! - `fields`, `choices`, `keys`: reading what stands at one key, and which keys a place may have;
 //! - `row`, `plans`: a node as its table says it, and as a planned node, whose parent is in the file;
-//! - `ways`, `graph`: whether the nodes make a tree.
+//! - `ways`, `graph`: whether the nodes make a tree;
+//! - `laws`: that a text has one plan or one fault, and more.
 #![tactic(auto)]
 
 mod choices;
@@ -16,6 +17,7 @@ mod fault;
 mod fields;
 mod graph;
 mod keys;
+mod laws;
 mod names;
 mod node;
 mod plan;
@@ -30,6 +32,7 @@ mod tree_plan;
 mod ways;
 
 pub use fault::{ConfigFault, Field, Place, PlanRefusal};
+pub use laws::{names_read_back, one_depth, one_plan, plans_are_in_range};
 pub use names::{cond_name, drbg_name};
 pub use plan::{NodeKind, NodePlan, Origin, SourcePlan};
 pub use tree_plan::TreePlan;

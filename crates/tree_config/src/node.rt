@@ -15,7 +15,7 @@ use crate::plan::NodeKind;
 use crate::row::{NodeRow, RowOrigin};
 use toml::Table;
 
-// The number of a source of the file.
+// The number of a source of a file that has so many.
 fn source(table: &Table, count: u8) -> Result<u8, Field>
     ensures { result ≡ required field.Source (source_within count) (get_member (codes "source") (table_view table.now)) }
 {
@@ -33,7 +33,7 @@ fn source(table: &Table, count: u8) -> Result<u8, Field>
     }
 }
 
-// The keys of a node with a source.
+// The keys source, parent and seed of an RBG2 or an RBG3, which draws on a source.
 fn drawn(table: &Table, count: u8) -> Result<RowOrigin, Field>
     ensures { result ≡ drawn count (get_member (codes "source") (table_view table.now)) (get_member (codes "parent") (table_view table.now)) (get_member (codes "seed") (table_view table.now)) }
 {
@@ -43,7 +43,7 @@ fn drawn(table: &Table, count: u8) -> Result<RowOrigin, Field>
     Ok(RowOrigin::Source(n))
 }
 
-// The keys of a node that draws on a file.
+// The keys source, parent and seed of an RBG1, which is seeded from a file.
 fn seeded(table: &Table) -> Result<RowOrigin, Field>
     ensures { result ≡ origin_of node_kind.Rbg1 0 (get_member (codes "source") (table_view table.now)) (get_member (codes "parent") (table_view table.now)) (get_member (codes "seed") (table_view table.now)) }
 {
@@ -53,7 +53,7 @@ fn seeded(table: &Table) -> Result<RowOrigin, Field>
     Ok(RowOrigin::SeedFile(file))
 }
 
-// The keys of a child.
+// The keys source, parent and seed of a child. The parent is any number, since it is looked for after all fields.
 fn child(table: &Table) -> Result<RowOrigin, Field>
     ensures { result ≡ origin_of node_kind.Child 0 (get_member (codes "source") (table_view table.now)) (get_member (codes "parent") (table_view table.now)) (get_member (codes "seed") (table_view table.now)) }
 {
@@ -74,7 +74,7 @@ fn origin(table: &Table, kind: NodeKind, count: u8) -> Result<RowOrigin, Field>
     }
 }
 
-/// The node that a table says, or the first field at fault.
+/// The node that a table says in a file of so many sources, or the first field at fault.
 #[tactic(auto, unfolding(crate::specs::Node::node_at))]
 pub(crate) fn node(table: &Table, count: u8) -> Result<NodeRow, Field>
     ensures { result ≡ node_at count (table_view table.now) }

@@ -102,7 +102,7 @@ fn heading(table: &Table) -> Result<Heading<'_>, PlanRefusal>
     }
 }
 
-// The most nodes of a version.
+// The most nodes of a version, of which there is one.
 fn node_limit(version: u8) -> u64
     ensures value { result ≡ node_limit version }
     ensures few { result ≤ 63 }
@@ -110,7 +110,7 @@ fn node_limit(version: u8) -> u64
     63
 }
 
-/// The greatest depth of a version.
+/// The greatest depth of a version, of which there is one.
 pub(crate) fn depth_limit(version: u8) -> u8
     ensures value { result ≡ depth_limit version }
     ensures range { 1 ≤ result × result ≤ 8 }

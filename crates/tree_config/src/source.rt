@@ -14,6 +14,7 @@ use crate::plan::SourcePlan;
 use health_tests::{Cutoffs, rct_cutoff};
 use toml::{Table, Value};
 
+// Whether the boolean true stands at a key, and no other value.
 fn is_true(table: &Table, key: &str) -> bool
     ensures { result ≡ is_true (get_member key.now (table_view table.now)) }
 {
@@ -23,7 +24,7 @@ fn is_true(table: &Table, key: &str) -> bool
     }
 }
 
-// Whether the tests allow so much entropy of a sample.
+// Whether a sample can hold num / den bits of min-entropy: at most 8, and at most 1 where it is binary.
 fn den_fits(table: &Table, num: u32, den: u32) -> Result<(), Field>
     requires { den ≤ 1000 }
     ensures value { result ≡ den_fits num den (get_member (codes "binary") (table_view table.now)) }
@@ -37,7 +38,7 @@ fn den_fits(table: &Table, num: u32, den: u32) -> Result<(), Field>
     Ok(())
 }
 
-// The cutoff of repetitions, given or computed.
+// The cutoff of the repetition count test, given or computed (SP 800-90B 4.4.1): exactly one of its keys has to be there.
 fn rct(table: &Table, num: u32, den: u32) -> Result<u32, Field>
     requires num_range { 1 ≤ num × num ≤ 8000 }
     requires den_range { 1 ≤ den × den ≤ 1000 }
@@ -57,7 +58,7 @@ fn rct(table: &Table, num: u32, den: u32) -> Result<u32, Field>
     }
 }
 
-// The window of the second test.
+// The window of the adaptive proportion test, in samples (SP 800-90B 4.4.2).
 #[tactic(auto, unfolding(crate::specs::Source::window_of))]
 fn window_of(binary: bool) -> u16
     ensures value { result ≡ window_of binary }
@@ -66,7 +67,7 @@ fn window_of(binary: bool) -> u16
     if binary { 1024 } else { 512 }
 }
 
-// The cutoff of the second test, within its window.
+// The cutoff of the adaptive proportion test, within its window.
 fn apt(table: &Table, binary: bool) -> Result<u16, Field>
     ensures value { result ≡ required field.Apt (number_within 2 (window_of binary)) (get_member (codes "apt") (table_view table.now)) }
     ensures range { IfOk result (λ n. 2 ≤ n × n ≤ window_of binary) }

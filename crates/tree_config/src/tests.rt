@@ -1,6 +1,5 @@
 // Texts and the plans or faults that docs/CONFIGURATION.md gives them.
-mod faults;
-mod graphs;
-mod order;
+mod fields;
 mod plans;
 mod texts;
+mod trees;

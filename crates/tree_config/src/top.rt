@@ -21,6 +21,7 @@ pub(crate) struct Heading<'a> {
     pub nodes: &'a [Value],
 }
 
+// Whether each value is a table.
 fn are_tables(values: &[Value]) -> bool
     ensures { result ≡ are_tables (items_view values.now) }
 {
@@ -89,6 +90,7 @@ fn nodes(table: &Table) -> Result<&[Value], Field>
     }
 }
 
+// Whether all nodes are opened at the start, by its name.
 fn opening_within(value: &Value) -> Option<bool>
     ensures { result ≡ one_of opening_names (view value.now) }
 {
@@ -99,6 +101,7 @@ fn opening_within(value: &Value) -> Option<bool>
     }
 }
 
+// The same, and "all" where the key is absent.
 fn opening(table: &Table) -> Result<bool, Field>
     ensures { result ≡ or_default true field.Opening (one_of opening_names) (get_member (codes "opening") (table_view table.now)) }
 {

@@ -39,7 +39,7 @@ impl Model for TreePlan {
 }
 
 impl TreePlan {
-    /// The plan of a text, or its first fault. The text has at most 65,536 bytes.
+    /// The plan of a text, or its first fault. A text of more than 65,536 bytes is a fault.
     pub fn read(alloc: Global, text: &[u8]) -> Result<TreePlan, PlanRefusal>
         ensures plan { MatchResult result (λ tree. Plan text.now (Ok tree)) (FaultIs (λ fault. Plan text.now (Err fault))) }
         ensures range { IfOk result (IsPlanned 1) }

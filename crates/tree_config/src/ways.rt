@@ -15,6 +15,7 @@ pub(crate) enum Way {
     Lost,
 }
 
+// The number of a node's parent.
 fn parent_of(node: &NodePlan) -> Option<usize>
     ensures { result ≡ parent_in node.now.origin }
 {
@@ -66,7 +67,7 @@ pub(crate) fn first_cycle(nodes: &[NodePlan]) -> Option<usize>
     None
 }
 
-/// How deep node n stands.
+/// How deep node n stands, where no node is on a cycle.
 pub(crate) fn depth_of(nodes: &[NodePlan], n: usize) -> usize
     requires known { IsNever (LacksParent (parents nodes.now)) }
     requires tree { IsNever (IsOnCycle (parents nodes.now)) }

@@ -1,58 +1,10 @@
-// The plans of the sample configurations, the stock plan, and names.
-ghost use Rattle.std.specs.Prelude.{◌≤◌};
+// The plans of the sample configurations and the stock plan, and what is printed.
+ghost use Rattle.std.specs.Prelude.{◌<◌, ◌≤◌, length};
 
-use crate::tests::texts::{K1, K2, K3, plan_of};
-use crate::{
-    ConfigFault, Field, NodeKind, Origin, Place, PlanRefusal, SourcePlan, TreePlan, cond_name,
-    drbg_name,
-};
-use rbg_bytes::{Cond, Kind};
+use crate::tests::texts::{K1, K2, K3, first_misprint, plan_of};
+use crate::{ConfigFault, Field, Origin, SourcePlan, TreePlan, cond_name, drbg_name};
+use std::alloc::Global;
 use std::test::Fail;
-
-#[derive(Clone, Copy)]
-enum From {
-    File(&'static str),
-    Source(u8),
-    Parent(u16),
-}
-
-// A node as it is wanted: its kind, its DRBG, its interval, where its seeds come from, and its depth.
-type Want = (NodeKind, Kind, u64, From, u8);
-
-fn comes_from(origin: &Origin, from: From) -> bool {
-    match (origin, from) {
-        (Origin::SeedFile(name), From::File(file)) => name.as_str() == file,
-        (Origin::Source(j), From::Source(k)) => *j == k,
-        (Origin::Parent(i), From::Parent(k)) => *i == k,
-        _ => false,
-    }
-}
-
-fn has_node(plan: &TreePlan, n: u16, want: Want) -> bool {
-    if n >= plan.nodes() {
-        return false;
-    }
-    let node = plan.node(n);
-    node.kind == want.0
-        && node.drbg == want.1
-        && node.interval == want.2
-        && comes_from(&node.origin, want.3)
-        && plan.depth(n) == want.4
-}
-
-fn has_nodes(plan: &TreePlan, wants: &[Want]) -> bool {
-    if usize::from(plan.nodes()) != wants.len() {
-        return false;
-    }
-    for n in 0..plan.nodes() {
-        if let Some(want) = wants.get(usize::from(n)) {
-            if !has_node(plan, n, *want) {
-                return false;
-            }
-        }
-    }
-    true
-}
 
 // Opening a source and making its tests asks this of a plan's numbers.
 fn opens(num: u32, den: u32, startup: u32) -> bool
@@ -66,125 +18,117 @@ fn opens(num: u32, den: u32, startup: u32) -> bool
     num > 0 && den > 0 && startup > 0
 }
 
-// Source j is that of the samples.
-fn has_ramp(plan: &TreePlan, j: u8) -> bool {
-    if j >= plan.sources() {
-        return false;
-    }
-    let source: &SourcePlan = plan.source(j);
-    opens(source.num, source.den, source.startup)
-        && source.samples.as_str() == "ramp"
-        && source.num == 8
-        && source.den == 1
-        && source.cutoffs.rct() == 4
-        && source.cutoffs.window() == 512
-        && source.cutoffs.apt() == 257
-        && source.startup == 1024
-        && source.cond == Cond::HmacSha256
+fn source_line(alloc: Global, source: &SourcePlan) -> Result<String, Fail> {
+    let name = source.samples.as_str();
+    let cond = cond_name(source.cond);
+    let cutoffs = &source.cutoffs;
+    Ok(format!(in alloc;
+        "{name} {}/{} {} {} {} {} {cond}\n",
+        source.num,
+        source.den,
+        cutoffs.rct(),
+        cutoffs.window(),
+        cutoffs.apt(),
+        source.startup
+    )?)
 }
+
+fn origin_text(alloc: Global, origin: &Origin) -> Result<String, Fail> {
+    Ok(match origin {
+        Origin::SeedFile(name) => format!(in alloc; "seed {}", name.as_str())?,
+        Origin::Source(j) => format!(in alloc; "source {j}")?,
+        Origin::Parent(i) => format!(in alloc; "parent {i}")?,
+    })
+}
+
+fn node_line(alloc: Global, plan: &TreePlan, n: u16) -> Result<String, Fail>
+    requires { n < length plan.now.nodes }
+{
+    let node = plan.node(n);
+    let origin = origin_text(alloc, &node.origin)?;
+    Ok(format!(in alloc;
+        "{} {} {} {} {}\n",
+        node.kind.name(),
+        drbg_name(node.drbg),
+        node.interval,
+        origin.as_str(),
+        plan.depth(n)
+    )?)
+}
+
+// All that a plan holds: a line for the opening, one for each source and one for each node.
+fn plan_text(alloc: Global, plan: &TreePlan) -> Result<String, Fail> {
+    let opening = if plan.opens_all() { "all\n" } else { "none\n" };
+    let mut text = String::from_str(alloc, opening)?;
+    for j in 0..plan.sources() {
+        let source = plan.source(j);
+        if opens(source.num, source.den, source.startup) {
+            text.push_str(&source_line(alloc, source)?)?;
+        }
+    }
+    for n in 0..plan.nodes() {
+        text.push_str(&node_line(alloc, plan, n)?)?;
+    }
+    Ok(text)
+}
+
+// One cutoff is computed, 1 + ceil(20 / (3 / 4)) = 28, the samples are binary, and all else has its default or is an inline table.
+const K5: &str = "version = 1
+node = [{ kind = \"rbg2\", drbg = \"ctr-aes-192\", source = 0 }]
+source = [{ samples = \"a/b\", num = 3, den = 4, binary = true, rct_a = 20, apt = 1024, startup = 65536, conditioner = \"df-aes-256\" }]
+";
 
 #[test]
 fn the_samples_are_these_plans(rt: HostRuntime) -> Result<(), Fail> {
     let alloc = rt.alloc();
-    let k1 = plan_of(alloc, K1)?;
-    assert!(rt; !k1.opens_all());
-    assert_eq!(rt; k1.sources(), 1);
-    assert!(rt; has_ramp(&k1, 0));
-    assert!(rt;
-        has_nodes(
-            &k1,
-            &[
-                (NodeKind::Rbg2, Kind::HmacSha256, 2, From::Source(0), 1),
-                (NodeKind::Child, Kind::CtrAes256, 1, From::Parent(0), 2),
-            ],
-        )
-    );
-    let k2 = plan_of(alloc, K2)?;
-    assert!(rt; k2.opens_all());
-    assert_eq!(rt; k2.sources(), 2);
-    assert!(rt; has_ramp(&k2, 0) && has_ramp(&k2, 1));
-    assert!(rt;
-        has_nodes(
-            &k2,
-            &[
-                (NodeKind::Rbg2, Kind::HmacSha256, 50, From::Source(0), 1),
-                (NodeKind::Rbg2, Kind::HmacSha256, 50, From::Source(1), 1),
-                (NodeKind::Child, Kind::HmacSha256, 100, From::Parent(0), 2),
-                (NodeKind::Child, Kind::HmacSha256, 100, From::Parent(1), 2),
-            ],
-        )
-    );
-    let k3 = plan_of(alloc, K3)?;
-    assert!(rt; k3.opens_all());
-    assert_eq!(rt; k3.sources(), 1);
-    assert!(rt; has_ramp(&k3, 0));
-    assert!(rt;
-        has_nodes(
-            &k3,
-            &[
-                (
-                    NodeKind::Rbg3Xor,
-                    Kind::HmacSha256,
-                    1000,
-                    From::Source(0),
-                    1
-                ),
-                (NodeKind::Rbg3Rs, Kind::HmacSha256, 1000, From::Source(0), 1),
-                (NodeKind::Rbg1, Kind::HmacSha256, 2, From::File("s48"), 1),
-                (NodeKind::Child, Kind::CtrAes128, 10, From::Parent(2), 2),
-            ],
-        )
-    );
-    Ok(())
-}
-
-#[test]
-fn defaults_and_computed_numbers(rt: HostRuntime) -> Result<(), Fail> {
-    let alloc = rt.alloc();
-    // 1 + ceil(20 / (3 / 4)) = 28, and a window of binary samples
-    let text = "version = 1
-node = [{ kind = \"rbg2\", drbg = \"ctr-aes-192\", source = 0 }]
-source = [{ samples = \"a/b\", num = 3, den = 4, binary = true, rct_a = 20, apt = 1024, startup = 65536, conditioner = \"df-aes-256\" }]
-";
-    let plan = plan_of(alloc, text)?;
-    assert!(rt; plan.opens_all());
-    assert!(rt;
-        has_nodes(
-            &plan,
-            &[(NodeKind::Rbg2, Kind::CtrAes192, 65536, From::Source(0), 1)]
-        )
-    );
-    assert_eq!(rt; plan.sources(), 1);
-    if plan.sources() == 1 {
-        let source = plan.source(0);
-        assert_eq!(rt; source.samples.as_str(), "a/b");
-        assert_eq!(rt; (source.num, source.den, source.startup), (3, 4, 65536));
-        assert_eq!(rt; source.cutoffs.rct(), 28);
-        assert_eq!(rt; source.cutoffs.window(), 1024);
-        assert_eq!(rt; source.cutoffs.apt(), 1024);
-        assert!(rt; source.cond == Cond::DfAes256);
+    for (text, want) in [
+        (
+            K1,
+            "none
+ramp 8/1 4 512 257 1024 hmac-sha-256
+rbg2 hmac-sha-256 2 source 0 1
+child ctr-aes-256 1 parent 0 2
+",
+        ),
+        (
+            K2,
+            "all
+ramp 8/1 4 512 257 1024 hmac-sha-256
+ramp 8/1 4 512 257 1024 hmac-sha-256
+rbg2 hmac-sha-256 50 source 0 1
+rbg2 hmac-sha-256 50 source 1 1
+child hmac-sha-256 100 parent 0 2
+child hmac-sha-256 100 parent 1 2
+",
+        ),
+        (
+            K3,
+            "all
+ramp 8/1 4 512 257 1024 hmac-sha-256
+rbg3-xor hmac-sha-256 1000 source 0 1
+rbg3-rs hmac-sha-256 1000 source 0 1
+rbg1 hmac-sha-256 2 seed s48 1
+child ctr-aes-128 10 parent 2 2
+",
+        ),
+        (
+            K5,
+            "all
+a/b 3/4 28 1024 1024 65536 df-aes-256
+rbg2 ctr-aes-192 65536 source 0 1
+",
+        ),
+    ] {
+        let plan = plan_of(alloc, text)?;
+        let got = plan_text(alloc, &plan)?;
+        assert_eq!(rt; got.as_str(), want);
     }
-    Ok(())
-}
-
-#[test]
-fn the_stock_plan(rt: HostRuntime) -> Result<(), Fail> {
-    let alloc = rt.alloc();
     match TreePlan::stock(alloc) {
         Ok(plan) => {
-            assert!(rt; plan.opens_all());
-            assert_eq!(rt; plan.sources(), 0);
-            assert!(rt;
-                has_nodes(
-                    &plan,
-                    &[(
-                        NodeKind::Rbg1,
-                        Kind::HmacSha256,
-                        281474976710656,
-                        From::File(""),
-                        1
-                    )],
-                )
+            let got = plan_text(alloc, &plan)?;
+            assert_eq!(rt;
+                got.as_str(),
+                "all\nrbg1 hmac-sha-256 281474976710656 seed  1\n"
             );
         }
         Err(_) => return Err(Fail::from("out of memory")),
@@ -192,78 +136,33 @@ fn the_stock_plan(rt: HostRuntime) -> Result<(), Fail> {
     Ok(())
 }
 
+const PRINTED: &str = "version -> = : not TOML
+opening -> x : bad field Unknown at top
+num = 8 -> num = 9 : bad field Den at source 0
+rct = 4 -> rct_a = 0 : bad field RctA at source 0
+interval = 1 -> interval = 0 : bad field Interval at node 1
+[[source]] -> [[source]];[[source]];[[source]];[[source]];[[source]] : too many sources
+parent = 0 -> parent = 7 : no such parent at node 1
+parent = 0 -> parent = 1 : cycle at node 1
+hmac-sha-256 -> ctr-aes-128 : strength rises at node 1";
+
 #[test]
-fn names_and_faults_print(rt: HostRuntime) -> Result<(), Fail> {
+fn faults_and_names_print(rt: HostRuntime) -> Result<(), Fail> {
     let alloc = rt.alloc();
-    assert_eq!(rt; NodeKind::Rbg3Xor.name(), "rbg3-xor");
-    assert_eq!(rt; drbg_name(Kind::HmacSha384), "hmac-sha-384");
-    assert_eq!(rt; cond_name(Cond::DfAes256), "df-aes-256");
-    assert_eq!(rt; Field::RctA.name(), "RctA");
-    let rows = [
-        (ConfigFault::TooLarge { limit: 65536 }, "too large"),
-        (ConfigFault::BadToml, "not TOML"),
-        (
-            ConfigFault::BadField {
-                place: Place::Top,
-                field: Field::Unknown,
-            },
-            "bad field Unknown at top",
-        ),
-        (
-            ConfigFault::BadField {
-                place: Place::Source(3),
-                field: Field::RctA,
-            },
-            "bad field RctA at source 3",
-        ),
-        (
-            ConfigFault::BadField {
-                place: Place::Node(62),
-                field: Field::NodeKind,
-            },
-            "bad field NodeKind at node 62",
-        ),
-        (
-            ConfigFault::TooMany {
-                nodes: false,
-                count: 5,
-                limit: 4,
-            },
-            "too many sources",
-        ),
-        (
-            ConfigFault::TooMany {
-                nodes: true,
-                count: 64,
-                limit: 63,
-            },
-            "too many nodes",
-        ),
-        (
-            ConfigFault::NoSuchParent {
-                node: 1,
-                parent: 70000,
-            },
-            "no such parent at node 1",
-        ),
-        (ConfigFault::Cycle { node: 1 }, "cycle at node 1"),
-        (ConfigFault::TooDeep { node: 8 }, "too deep at node 8"),
-        (
-            ConfigFault::StrengthRises {
-                node: 1,
-                own: 256,
-                parent: 128,
-            },
-            "strength rises at node 1",
-        ),
-    ];
-    for (fault, want) in rows {
-        let text = format!(in alloc; "{fault}")?;
-        assert_eq!(rt; text.as_str(), want);
-        let text = format!(in alloc; "{}", PlanRefusal::Fault(fault))?;
-        assert_eq!(rt; text.as_str(), want);
-    }
-    let text = format!(in alloc; "{}", PlanRefusal::OutOfMemory)?;
-    assert_eq!(rt; text.as_str(), "out of memory");
+    assert_eq!(rt; first_misprint(alloc, K1, PRINTED)?, "");
+    let large = format!(in alloc; "{}", ConfigFault::TooLarge { limit: 65536 })?;
+    assert_eq!(rt; large.as_str(), "too large");
+    let many = format!(in alloc;
+        "{}",
+        ConfigFault::TooMany {
+            nodes: true,
+            count: 64,
+            limit: 63
+        }
+    )?;
+    assert_eq!(rt; many.as_str(), "too many nodes");
+    let deep = format!(in alloc; "{}", ConfigFault::TooDeep { node: 62 })?;
+    assert_eq!(rt; deep.as_str(), "too deep at node 62");
+    assert_eq!(rt; Field::NodeKind.name(), "NodeKind");
     Ok(())
 }

@@ -1,5 +1,5 @@
-// The sample configurations, and what a text comes to.
-use crate::{ConfigFault, Field, Place, PlanRefusal, TreePlan};
+// The sample configurations, and tables of texts with what they come to.
+use crate::{PlanRefusal, TreePlan};
 use std::alloc::Global;
 use std::test::Fail;
 
@@ -98,21 +98,114 @@ pub fn plan_of(alloc: Global, text: &str) -> Result<TreePlan, Fail> {
     }
 }
 
-/// The fault of bytes, none where they are a plan.
-pub fn fault_in(alloc: Global, text: &[u8]) -> Result<Option<ConfigFault>, Fail> {
+/// What bytes come to: `plan`, or the fault with all its numbers.
+pub fn outcome(alloc: Global, text: &[u8]) -> Result<String, Fail> {
     match TreePlan::read(alloc, text) {
-        Ok(_) => Ok(None),
-        Err(PlanRefusal::Fault(fault)) => Ok(Some(fault)),
+        Ok(_) => Ok(String::from_str(alloc, "plan")?),
+        Err(PlanRefusal::Fault(fault)) => Ok(format!(in alloc; "{fault:?}")?),
         Err(PlanRefusal::OutOfMemory) => Err(Fail::from("out of memory")),
     }
 }
 
-/// The fault of a text.
-pub fn fault_of(alloc: Global, text: &str) -> Result<Option<ConfigFault>, Fail> {
-    fault_in(alloc, text.as_bytes())
+/// The text with a change, `FROM -> TO`, in which a `;` stands for the end of a line.
+fn changed(alloc: Global, text: &str, change: &str) -> Result<String, Fail> {
+    match change.split_once(" -> ") {
+        Some((from, to)) => {
+            let from = from.replace(alloc, ";", "\n")?;
+            let to = to.replace(alloc, ";", "\n")?;
+            Ok(text.replace(alloc, &from, &to)?)
+        }
+        None => Err(Fail::from("a row without a change")),
+    }
 }
 
-/// A field at fault.
-pub fn bad(place: Place, field: Field) -> Option<ConfigFault> {
-    Some(ConfigFault::BadField { place, field })
+// Whether a row holds: a change of the text, ` : `, and the field of the place that is then at fault, or a `-` for none.
+fn holds(alloc: Global, text: &str, place: &str, row: &str) -> Result<bool, Fail> {
+    match row.split_once(" : ") {
+        Some((change, field)) => {
+            let text = changed(alloc, text, change)?;
+            let want = if field == "-" {
+                String::from_str(alloc, "plan")?
+            } else {
+                format!(in alloc; "BadField {{ place: {place}, field: {field} }}")?
+            };
+            let got = outcome(alloc, text.as_bytes())?;
+            Ok(got.as_str() == want.as_str())
+        }
+        None => Ok(false),
+    }
+}
+
+/// The first row of a table that does not hold, each row being a line of it; empty where all hold.
+pub fn first_miss<'a>(
+    alloc: Global,
+    text: &str,
+    place: &str,
+    table: &'a str,
+) -> Result<&'a str, Fail> {
+    for row in table.lines() {
+        if !holds(alloc, text, place, row)? {
+            return Ok(row);
+        }
+    }
+    Ok("")
+}
+
+/// The first row of a table whose change of the text does not print as the row says; empty where all do.
+pub fn first_misprint<'a>(alloc: Global, text: &str, table: &'a str) -> Result<&'a str, Fail> {
+    for row in table.lines() {
+        match row.split_once(" : ") {
+            Some((change, want)) => {
+                let text = changed(alloc, text, change)?;
+                match TreePlan::read(alloc, text.as_bytes()) {
+                    Ok(_) => return Ok(row),
+                    Err(refusal) => {
+                        let got = format!(in alloc; "{refusal}")?;
+                        if got.as_str() != want {
+                            return Ok(row);
+                        }
+                    }
+                }
+            }
+            None => return Ok(row),
+        }
+    }
+    Ok("")
+}
+
+// A text of which the first lines are right and the others wrong. Each row of the ladder is `WRONG | RIGHT | FIELD`.
+fn rung(alloc: Global, head: &str, ladder: &str, right: usize) -> Result<String, Fail> {
+    let mut text = String::from_str(alloc, head)?;
+    for (i, row) in ladder.lines().enumerate() {
+        if let Some((wrong, rest)) = row.split_once(" | ") {
+            if let Some((good, _)) = rest.split_once(" | ") {
+                text.push_str(if i < right { good } else { wrong })?;
+                text.push_str("\n")?;
+            }
+        }
+    }
+    Ok(text)
+}
+
+/// The first row of a ladder whose field is not named where the rows before it are right, and it and those behind it are wrong.
+pub fn first_slip<'a>(
+    alloc: Global,
+    head: &str,
+    place: &str,
+    ladder: &'a str,
+) -> Result<&'a str, Fail> {
+    for (i, row) in ladder.lines().enumerate() {
+        match row.rsplit_once(" | ") {
+            Some((_, field)) => {
+                let text = rung(alloc, head, ladder, i)?;
+                let got = outcome(alloc, text.as_bytes())?;
+                let want = format!(in alloc; "BadField {{ place: {place}, field: {field} }}")?;
+                if got.as_str() != want.as_str() {
+                    return Ok(row);
+                }
+            }
+            None => return Ok(row),
+        }
+    }
+    Ok("")
 }
