@@ -1,0 +1,4 @@
+pub mod Source
+pub mod Draws
+pub mod Views
+pub mod Causes

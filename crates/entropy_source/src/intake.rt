@@ -1,0 +1,64 @@
+// Samples that are read, tested and counted, for the start-up or for one block.
+ghost use Rattle.std.specs.Prelude.{◌≡◌, ◌≤◌, ◌<◌, ◌+◌, ◌^◌, Some};
+ghost use Rattle.health_tests.specs.Numbers.{no_tail};
+ghost use Rattle.entropy_source.specs.Views.{IsSource, opened_view};
+
+use crate::answers::{SourceMode, SourceRow};
+use health_tests::Tests;
+use sample_source::Samples;
+use std::marker::Model;
+
+// A source but for the room where samples are read to.
+#[derive(Drop)]
+pub struct Intake<S: Samples> {
+    pub samples: S,
+    pub row: SourceRow,
+    pub tests: Tests,
+    pub taken: u64,
+    pub blocks: u64,
+    pub alarms: u64,
+    pub mode: SourceMode,
+}
+
+impl<S: Samples> Model for Intake<S> {
+    ghost use Rattle.std.specs.Prelude.{◌≡◌, ◌≤◌, ◌^◌};
+    ghost use Rattle.entropy_source.specs.Views.{SourceView, kept_tail, IsSound};
+
+    ghost Value = { SourceView S };
+
+    ghost view = { λ i. record {
+        row = i.row;
+        taken = i.taken;
+        blocks = i.blocks;
+        alarms = i.alarms;
+        mode = i.mode;
+        tail = kept_tail i.mode i.tests.tail;
+        samples = i.samples;
+    } };
+
+    ghost invariant = { λ i. IsSound i.row × (i.tests.cutoffs ≡ i.row.cutoffs) × (i.taken ≤ 2 ^ 60) × (i.blocks ≤ i.taken) × (i.alarms ≤ i.taken) };
+}
+
+impl<S: Samples> Intake<S> {
+    // A source that isn't started.
+    pub fn open(samples: S, row: SourceRow) -> Intake<S>
+        requires num_low { 1 ≤ row.num }
+        requires num_high { row.num ≤ 8000 }
+        requires den_low { 1 ≤ row.den }
+        requires den_high { row.den ≤ 1000 }
+        requires startup_low { 1 ≤ row.startup }
+        requires startup_high { row.startup ≤ 65536 }
+        ensures { result ≡ opened_view row no_tail samples }
+    {
+        let _ = row.cutoffs.window();
+        Intake {
+            samples,
+            row,
+            tests: Tests::fresh(row.cutoffs),
+            taken: 0,
+            blocks: 0,
+            alarms: 0,
+            mode: SourceMode::Idle,
+        }
+    }
+}

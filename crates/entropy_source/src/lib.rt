@@ -1,0 +1,14 @@
+//! An entropy source (SP 800-90B 2.2): samples of a noise source are tested one by one, conditioned in blocks, and given out
+//! as bytes, until a health test alarms.
+//!
+//! - `answers`: what is set of a source, and what its calls answer;
+//! - `intake`: samples that are read, tested and counted, for the start-up or for one block;
+//! - `source`: the source with its calls.
+#![tactic(auto)]
+
+mod answers;
+mod intake;
+mod source;
+
+pub use answers::{Cause, Range, SourceMode, SourceRefusal, SourceRow};
+pub use source::EntropySource;
