@@ -1,6 +1,6 @@
 -- What contracts see of a source, the state that it stands for, and what a start and a draw do to it.
 -- This project's own.
-use Rattle.std.specs.Prelude.{◌≡◌, ◌≤◌, ◌^◌, ℕ, List, [], ◌∷◌, take, Option, Some, None, IsSome, Result, Ok, Err, MatchResult}
+use Rattle.std.specs.Prelude.{◌≡◌, ◌≤◌, ◌^◌, ℕ, List, [], ◌∷◌, take, Option, Some, None, IsSome, IfSome, Result, Ok, Err, MatchResult}
 use Rattle.health_tests.specs.declared.numbers.Tail.{Tail}
 use Rattle.health_tests.specs.Cutoffs.{AreSound}
 use Rattle.entropy_source.specs.Source.{SourceAct, SourceState, source_after_all}
@@ -34,6 +34,16 @@ source_state told faults v = record {
   told = told v.samples;
   faults = faults v.samples;
 }
+
+-- The state stands for the source: it is the source's own, but for samples to come that it need not tell, since samples that
+-- told nothing may begin to tell.
+pub record IsStateOf {S : Type 0} (told : S → Option (List ℕ)) (faults : S → ℕ) (v : SourceView S) (s : SourceState) : Type 0 where
+  pub own : s ≡ record (source_state told faults v) { told = s.told }
+  pub tells : IfSome s.told (λ left. told v.samples ≡ Some left)
+
+-- whatever state stands for the source before a call, one stands for it afterwards, and this is so of both
+abbrev pub Goes : {S : Type 0} → (S → Option (List ℕ)) → (S → ℕ) → SourceView S → SourceView S → (SourceState → SourceState → Type 0) → Type 0
+Goes told faults old new P = (s : SourceState) → IsStateOf told faults old s → (now : SourceState) × IsStateOf told faults new now × P s now
 
 -- a source as it is opened over these samples
 abbrev pub opened_view : {S : Type 0} → SourceRow → Tail → S → SourceView S

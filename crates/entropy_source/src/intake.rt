@@ -1,9 +1,13 @@
 // Samples that are read, tested and counted, for the start-up or for one block.
-ghost use Rattle.std.specs.Prelude.{◌≡◌, ◌≤◌, ◌<◌, ◌+◌, ◌^◌, Some};
+ghost use Rattle.std.specs.Prelude.{◌≡◌, ◌≤◌, ◌<◌, ◌+◌, ◌-◌, ◌^◌, ℕ, List, [], Some, length, take, min, IsSome, OnOk, IfOk};
 ghost use Rattle.health_tests.specs.Numbers.{no_tail};
-ghost use Rattle.entropy_source.specs.Views.{IsSource, opened_view};
+ghost use Rattle.conditioner.specs.Conditioned.{conditioned};
+ghost use Rattle.entropy_source.specs.Source.{need_of_block};
+ghost use Rattle.entropy_source.specs.Views.{IsSource, opened_view, Goes};
+ghost use Rattle.entropy_source.specs.Steps.{Comes};
 
-use crate::answers::{SourceMode, SourceRow};
+use crate::answers::{SourceMode, SourceRefusal, SourceRow};
+use crate::stepping::step_all;
 use health_tests::Tests;
 use sample_source::Samples;
 use std::marker::Model;
@@ -59,6 +63,46 @@ impl<S: Samples> Intake<S> {
             blocks: 0,
             alarms: 0,
             mode: SourceMode::Idle,
+        }
+    }
+
+    // One read for what a block or the start-up lacks. Its samples are counted and tested.
+    fn read(&mut self, lacks: u32, piece: &mut [u8]) -> Result<usize, SourceRefusal>
+        requires asked { length piece.old ≡ min 4096 lacks }
+        requires lacking { 0 < lacks }
+        requires room { self.old.taken + lacks ≤ 2 ^ 60 }
+        requires tested { IsSome self.old.tail }
+        ensures comes { Goes S.told S.faults self.old self.new (Comes self.old.row lacks (λ count. lacks - count) (λ count. take count piece.new) result) }
+        ensures count { IfOk result (λ count. (0 < count) × (count ≤ length piece.old)) }
+        ensures row { self.new.row ≡ self.old.row }
+    {
+        let count = match self.samples.read(piece) {
+            Ok(count) => count,
+            Err(_) => {
+                return Err(SourceRefusal::SourceFault {
+                    count: self.samples.fault_count(),
+                });
+            }
+        };
+        if count == 0 {
+            return Err(SourceRefusal::WantOfEntropy { missing: lacks });
+        }
+        let from = self.taken;
+        self.taken += count as u64;
+        match step_all(&mut self.tests, &piece[..count]) {
+            None => Ok(count),
+            Some(alarm) => {
+                let index = from + alarm.at as u64;
+                self.alarms += 1;
+                self.mode = SourceMode::Alarmed {
+                    index,
+                    test: alarm.test,
+                };
+                Err(SourceRefusal::HealthFailed {
+                    index,
+                    test: alarm.test,
+                })
+            }
         }
     }
 }

@@ -9,6 +9,7 @@
 mod answers;
 mod intake;
 mod source;
+mod stepping;
 
 pub use answers::{Cause, Range, SourceMode, SourceRefusal, SourceRow};
 pub use source::EntropySource;

@@ -1,0 +1,3 @@
+mod Tested
+mod Stands
+mod Reading
