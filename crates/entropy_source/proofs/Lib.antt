@@ -1,3 +1,5 @@
 mod Tested
 mod Stands
 mod Reading
+mod Joining
+mod Starts

@@ -11,7 +11,7 @@ use Rattle.entropy_source.specs.declared.answers.SourceMode.{SourceMode}
 use Rattle.entropy_source.specs.declared.answers.SourceMode.TheVariants.{Idle, Running, Alarmed}
 use Rattle.entropy_source.specs.Source.{SourceState, Read, given, source_after}
 use Rattle.entropy_source.specs.Draws.{AreNext}
-use Rattle.entropy_source.specs.Views.{SourceView, IsStateOf, Goes, kept_tail}
+use Rattle.entropy_source.specs.Views.{SourceView, IsStateOf, Goes, source_state, kept_tail}
 
 -- a state by its numbers
 pub state_is : (s : SourceState) (taken blocks alarms : ℕ) (mode : SourceMode) (tail : Option Tail) (faults : ℕ)
@@ -81,3 +81,10 @@ module _ {S : Type 0} (told : S → Option (List ℕ)) (faults : S → ℕ) wher
   pub moved : (v u : SourceView S) → v ≡ u → (w : SourceView S) (P : SourceRow → SourceState → SourceState → Type 0)
       → Goes told faults v w (P v.row) → Goes told faults u w (P u.row)
   moved v u e w P h = subst (λ (z : SourceView S). Goes told faults z w (P z.row)) e h
+
+  -- a source's own state stands for it
+  pub own_state : (v : SourceView S) → IsStateOf told faults v (source_state told faults v)
+  own_state v = record { own = refl; tells = by (told v.samples) } where
+    by : (o : Option (List ℕ)) → IfSome o (λ left. o ≡ Some left)
+    by None = tt
+    by (Some left) = refl

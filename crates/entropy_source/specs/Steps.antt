@@ -4,11 +4,12 @@
 use Rattle.std.specs.Prelude.{◌≡◌, ◌<◌, ◌≤◌, ℕ, zero, suc, ◌+◌, ◌-◌, ◌*◌, List, [], ◌∷◌, ◌++◌, length, take, Option, Some, None, Result, Ok, Err, MatchResult}
 use Rattle.health_tests.specs.declared.numbers.Tail.{Tail}
 use Rattle.health_tests.specs.Numbers.{tail_after}
+use Rattle.conditioner.specs.Conditioned.{conditioned}
 use Rattle.rbg_bytes.specs.Streams.{Rose}
-use Rattle.entropy_source.specs.Source.{SourceAct, SourceState, source_after_all, need_of_block}
+use Rattle.entropy_source.specs.Source.{SourceAct, Began, SourceState, source_after, source_after_all, need_of_block}
 use Rattle.entropy_source.specs.Draws.{Gathers, Draws, found_in}
 use Rattle.entropy_source.specs.declared.answers.SourceRow.{SourceRow}
-use Rattle.entropy_source.specs.declared.answers.SourceMode.TheVariants.{Alarmed}
+use Rattle.entropy_source.specs.declared.answers.SourceMode.TheVariants.{Running, Alarmed}
 use Rattle.entropy_source.specs.declared.answers.SourceRefusal.{SourceRefusal}
 use Rattle.entropy_source.specs.declared.answers.SourceRefusal.TheVariants.{SourceSpent, InError, SourceFault, HealthFailed, WantOfEntropy}
 
@@ -59,6 +60,23 @@ abbrev pub Comes : {T : Type 0} → SourceRow → ℕ → (T → ℕ) → (T →
 Comes row lacks left got result s now =
     MatchResult result (λ x. Leads row s now lacks (left x) (got x)) (λ why. Stops row s now lacks why)
 
+-- the samples of the start-up
+abbrev pub WarmsUp : {T : Type 0} → SourceRow → Result T SourceRefusal → SourceState → SourceState → Type 0
+WarmsUp row result s now =
+    MatchResult result (λ _. (got : List ℕ) × Leads row s now row.startup 0 got) (λ why. Stops row s now row.startup why)
+
+-- a start whose tests are fresh, when all its samples were read or a refusal came
+abbrev pub EndsStart : {T : Type 0} → SourceRow → Result T SourceRefusal → SourceState → SourceState → Type 0
+EndsStart row result s now =
+    MatchResult result (λ _. (now.mode ≡ Running) × (now.taken ≡ s.taken + row.startup) × (now.faults ≡ s.faults))
+    (λ why. IsLeft (source_after row s Began) now row.startup why)
+
+-- the samples of one block, and the block
+abbrev pub Conditions : SourceRow → Result (List ℕ) SourceRefusal → SourceState → SourceState → Type 0
+Conditions row result s now =
+    MatchResult result (λ block. (got : List ℕ) × Leads row s now (need_of_block row) 0 got × (block ≡ conditioned row.cond got))
+    (λ why. Stops row s now (need_of_block row) why)
+
 -- so many blocks that gave these bytes: what draws the rest from now on draws all
 pub record LeadsBlocks (row : SourceRow) (s now : SourceState) (blocks left : ℕ) (bytes : List ℕ) : Type 0 where
   pub acts : List SourceAct
@@ -79,3 +97,14 @@ pub record StopsBlocks (row : SourceRow) (s now : SourceState) (blocks : ℕ) (w
   pub left : IsLeft s now (need_of_block row) why
   pub ends : (t : Tail) (read before : List ℕ) → s.tail ≡ Some (tail_after row.cutoffs.window t read)
       → Draws row (found_in row.cutoffs (Some t)) blocks s read before acts (Err why)
+
+-- one block of those that are left
+abbrev pub MakesBlock : SourceRow → Result (List ℕ) SourceRefusal → SourceState → SourceState → Type 0
+MakesBlock row result s now =
+    MatchResult result (λ block. (left : ℕ) → LeadsBlocks row s now (suc left) left block) (λ why. (left : ℕ) → StopsBlocks row s now (suc left) why)
+
+-- all blocks, of which the bytes `out` are the first
+abbrev pub Fills : {T : Type 0} → SourceRow → ℕ → List ℕ → Result T SourceRefusal → SourceState → SourceState → Type 0
+Fills row blocks out result s now =
+    MatchResult result (λ _. (bytes : List ℕ) × LeadsBlocks row s now blocks 0 bytes × (out ≡ take (length out) bytes))
+    (λ why. StopsBlocks row s now blocks why)

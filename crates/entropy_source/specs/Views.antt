@@ -92,7 +92,7 @@ without_bytes (Ok done) = Ok []
 without_bytes (Err why) = Err why
 
 -- a start that isn't refused before the first sample: some acts are a start with this result, and the state is that after them
-pub record HasStarted {T : Type 0} (row : SourceRow) (old new : SourceState) (result : Result T SourceRefusal) : Type 0 where
+pub record HasStarted {T : Type 0} (row : SourceRow) (result : Result T SourceRefusal) (old new : SourceState) : Type 0 where
   pub acts : List SourceAct
   pub start : Start row old acts (without_bytes result)
   pub state : new ≡ source_after_all row old acts
@@ -104,7 +104,7 @@ AnswersDraw old new n out bytes result =
 
 -- a draw of n bytes that isn't refused before the first sample: some acts are a draw, with alarms told by what the tests keep
 -- of the samples before, and the state is that after them
-pub record HasDrawn (row : SourceRow) (old new : SourceState) (n : ℕ) (out : List ℕ) (result : Result Range SourceRefusal) : Type 0 where
+pub record HasDrawn (row : SourceRow) (n : ℕ) (out : List ℕ) (result : Result Range SourceRefusal) (old new : SourceState) : Type 0 where
   pub acts : List SourceAct
   pub bytes : Result (List ℕ) SourceRefusal
   pub draw : Drawn row (found_in row.cutoffs old.tail) old (n ∷ []) acts bytes

@@ -3,8 +3,8 @@ ghost use Rattle.std.specs.Prelude.{◌≡◌, ◌≤◌, ◌<◌, ◌+◌, ◌-
 ghost use Rattle.health_tests.specs.Numbers.{no_tail};
 ghost use Rattle.conditioner.specs.Conditioned.{conditioned};
 ghost use Rattle.entropy_source.specs.Source.{need_of_block};
-ghost use Rattle.entropy_source.specs.Views.{IsSource, opened_view, Goes};
-ghost use Rattle.entropy_source.specs.Steps.{Comes};
+ghost use Rattle.entropy_source.specs.Views.{IsSource, opened_view, Goes, HasStarted};
+ghost use Rattle.entropy_source.specs.Steps.{Comes, WarmsUp, EndsStart};
 
 use crate::answers::{SourceMode, SourceRefusal, SourceRow};
 use crate::stepping::step_all;
@@ -103,6 +103,59 @@ impl<S: Samples> Intake<S> {
                     test: alarm.test,
                 })
             }
+        }
+    }
+
+    // Begins a start.
+    fn begin(&mut self)
+        ensures { self.new ≡ record self.old { mode = SourceMode.Idle; tail = Some no_tail } }
+    {
+        self.tests = Tests::fresh(self.row.cutoffs);
+        self.mode = SourceMode::Idle;
+    }
+
+    // Ends a start that was passed.
+    fn run(&mut self)
+        requires { IsSome self.old.tail }
+        ensures { self.new ≡ record self.old { mode = SourceMode.Running } }
+    {
+        self.mode = SourceMode::Running;
+    }
+
+    // Reads the samples of the start-up, which are tested and thrown away.
+    fn warm_up(&mut self, buffer: &mut [u8]) -> Result<(), SourceRefusal>
+        requires buffer { length buffer.old ≡ 4096 }
+        requires room { self.old.taken + self.old.row.startup ≤ 2 ^ 60 }
+        requires tested { IsSome self.old.tail }
+        ensures comes { Goes S.told S.faults self.old self.new (WarmsUp self.old.row result) }
+        ensures tested { OnOk result (IsSome self.new.tail) }
+        ensures row { self.new.row ≡ self.old.row }
+    {
+        let mut lacks = self.row.startup;
+        while lacks > 0 {
+            let asked = lacks.min(4096) as usize;
+            match self.read(lacks, &mut buffer[..asked]) {
+                Ok(count) => lacks -= count as u32,
+                Err(why) => return Err(why),
+            }
+        }
+        Ok(())
+    }
+
+    // A start: the tests are fresh, and it is passed where no alarm came.
+    pub fn start(&mut self, buffer: &mut [u8]) -> Result<(), SourceRefusal>
+        requires buffer { length buffer.old ≡ 4096 }
+        requires room { self.old.taken + self.old.row.startup ≤ 2 ^ 60 }
+        ensures acts { Goes S.told S.faults self.old self.new (λ s now. HasStarted self.old.row result s now × EndsStart self.old.row result s now) }
+        ensures row { self.new.row ≡ self.old.row }
+    {
+        self.begin();
+        match self.warm_up(buffer) {
+            Ok(()) => {
+                self.run();
+                Ok(())
+            }
+            Err(why) => Err(why),
         }
     }
 }
