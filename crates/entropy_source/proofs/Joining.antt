@@ -126,3 +126,10 @@ read_facts told faults row lacks left got v w h some =
         → ((t : Tail) → o ≡ Some t → now.tail ≡ Some (tail_after row.cutoffs.window t got)) → IsSome p
     by now p e None some keeps = cc
     by now p e (Some t) some keeps = subst (λ (o : Option Tail). IsSome o) (sym (keeps t refl) ∙ e) refl
+
+-- the number of blocks after reads without an alarm
+pub same_blocks : {S : Type 0} (told : S → Option (List ℕ)) (faults : S → ℕ) (row : SourceRow) (lacks left : ℕ) (got : List ℕ) (v w : SourceView S)
+    → Goes told faults v w (λ s now. Leads row s now lacks left got) → w.blocks ≡ v.blocks
+same_blocks told faults row lacks left got v w h =
+    let (now, st, leads) = h (source_state told faults v) (own_state told faults v) in
+    sym (ap (λ (z : SourceState). z.blocks) st.own) ∙ leads.blocks

@@ -3,3 +3,4 @@ mod Stands
 mod Reading
 mod Joining
 mod Starts
+mod Conditioning

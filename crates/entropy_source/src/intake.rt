@@ -67,7 +67,7 @@ impl<S: Samples> Intake<S> {
     }
 
     // One read for what a block or the start-up lacks. Its samples are counted and tested.
-    fn read(&mut self, lacks: u32, piece: &mut [u8]) -> Result<usize, SourceRefusal>
+    pub fn read(&mut self, lacks: u32, piece: &mut [u8]) -> Result<usize, SourceRefusal>
         requires asked { length piece.old ≡ min 4096 lacks }
         requires lacking { 0 < lacks }
         requires room { self.old.taken + lacks ≤ 2 ^ 60 }

@@ -2,11 +2,13 @@
 //! as bytes, until a health test alarms.
 //!
 //! - `answers`: what is set of a source, and what its calls answer;
-//! - `intake`: samples that are read, tested and counted, for the start-up or for one block;
+//! - `intake`: samples that are read, tested and counted, and the samples of a start-up;
+//! - `blocks`: conditioned blocks, and bytes filled with them;
 //! - `source`: the source with its calls.
 #![tactic(auto)]
 
 mod answers;
+mod blocks;
 mod intake;
 mod source;
 mod stepping;
