@@ -8,6 +8,7 @@ use Rattle.health_tests.specs.declared.numbers.Tail.{Tail}
 use Rattle.health_tests.specs.Numbers.{tail_after}
 use Rattle.rbg_bytes.specs.declared.cond.Cond.{Cond}
 use Rattle.conditioner.specs.Conditioned.{conditioned, block_len}
+use Rattle.conditioner.proofs.Blocks.{length-conditioned}
 use Rattle.conditioner.specs.Holds.{HoldsSamples}
 use Rattle.conditioner.specs.declared.block.Block as held
 use Rattle.entropy_source.specs.declared.answers.SourceRow.{SourceRow}
@@ -158,3 +159,11 @@ module _ {S : Type 0} (told : S → Option (List ℕ)) (faults : S → ℕ) wher
   pub makes_none : (v w : SourceView S) (why : SourceRefusal) → Goes told faults v w (λ s now. Stops v.row s now (need_of_block v.row) why)
       → Goes told faults v w (λ s now. (left : ℕ) → StopsBlocks v.row s now (suc left) why)
   makes_none v w why h s st = let (now, stands, x) = h s st in (now, stands, λ left. one_stop v.row s now why x left)
+
+  -- its length
+  pub made_len : (v m : SourceView S) (bytes : List ℕ)
+      → Goes told faults v m (λ s now. (got : List ℕ) × Leads v.row s now (need_of_block v.row) 0 got × (bytes ≡ conditioned v.row.cond got))
+      → length bytes ≡ block_len v.row.cond
+  made_len v m bytes h =
+    let (now, stands, (got, leads, block)) = h (source_state told faults v) (own_state told faults v) in
+    ap (length {A = ℕ}) block ∙ length-conditioned v.row.cond got

@@ -4,3 +4,4 @@ mod Reading
 mod Joining
 mod Starts
 mod Conditioning
+mod Filling

@@ -1,4 +1,4 @@
-use Rattle.entropy_source.proofs.Conditioning.{makes, makes_none}
+use Rattle.entropy_source.proofs.Conditioning.{makes, makes_none, made_len}
 use Rattle.entropy_source.proofs.intake.Intake.block.Goals as goal
 
 pub returns-in-Ok-clause-makes : goal.returns-in-Ok-clause-makes
@@ -8,3 +8,7 @@ returns-in-Ok-clause-makes g c =
 pub returns-in-Err-clause-makes : goal.returns-in-Err-clause-makes
 returns-in-Err-clause-makes g c =
     makes_none g.S.Samples.told g.S.Samples.faults c.args.self.now c.condition.new.self c.in-Err.why c.in-Err.ensures.comes
+
+pub returns-in-Ok-clause-len : goal.returns-in-Ok-clause-len
+returns-in-Ok-clause-len g c =
+    made_len g.S.Samples.told g.S.Samples.faults c.args.self.now c.condition.new.self c.in-Ok.block c.in-Ok.ensures.comes
