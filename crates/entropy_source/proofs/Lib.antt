@@ -5,3 +5,4 @@ mod Joining
 mod Starts
 mod Conditioning
 mod Filling
+mod Ends

@@ -6,7 +6,7 @@ use Rattle.health_tests.specs.declared.numbers.Tail.{Tail}
 use Rattle.health_tests.specs.Numbers.{tail_after}
 use Rattle.conditioner.specs.Conditioned.{conditioned}
 use Rattle.rbg_bytes.specs.Streams.{Rose}
-use Rattle.entropy_source.specs.Source.{SourceAct, Began, SourceState, source_after, source_after_all, need_of_block}
+use Rattle.entropy_source.specs.Source.{SourceAct, Began, SourceState, source_after, source_after_all, need_of, need_of_block}
 use Rattle.entropy_source.specs.Draws.{Gathers, Draws, found_in}
 use Rattle.entropy_source.specs.declared.answers.SourceRow.{SourceRow}
 use Rattle.entropy_source.specs.declared.answers.SourceMode.TheVariants.{Running, Alarmed}
@@ -108,3 +108,9 @@ abbrev pub Fills : {T : Type 0} → SourceRow → ℕ → List ℕ → Result T 
 Fills row blocks out result s now =
     MatchResult result (λ _. (bytes : List ℕ) × LeadsBlocks row s now blocks 0 bytes × (out ≡ take (length out) bytes))
     (λ why. StopsBlocks row s now blocks why)
+
+-- a draw of n bytes, when all its blocks were made or a refusal came
+abbrev pub EndsDraw : {T : Type 0} → SourceRow → ℕ → Result T SourceRefusal → SourceState → SourceState → Type 0
+EndsDraw row n result s now =
+    MatchResult result (λ _. (now.mode ≡ s.mode) × (now.taken ≡ s.taken + need_of row (n ∷ [])) × (now.faults ≡ s.faults))
+    (λ why. IsLeft s now (need_of_block row) why)

@@ -22,6 +22,23 @@ pub enum SourceMode {
     Alarmed { index: u64, test: Test },
 }
 
+impl SourceMode {
+    ghost use Rattle.std.specs.Prelude.{◌≡◌};
+    ghost use Rattle.entropy_source.specs.Views.{error_of};
+
+    // Why a source in this mode is in error, if it is.
+    #[must_use]
+    pub fn cause(self) -> Option<Cause>
+        ensures { result ≡ error_of self }
+    {
+        match self {
+            SourceMode::Idle => Some(Cause::NotStarted),
+            SourceMode::Running => None,
+            SourceMode::Alarmed { index, test } => Some(Cause::Alarm { index, test }),
+        }
+    }
+}
+
 /// Why a source is in error.
 #[derive(Clone, Copy, Debug, PartialEq, Eq)]
 pub enum Cause {

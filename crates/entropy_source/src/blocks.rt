@@ -1,11 +1,11 @@
 // Conditioned blocks, each of samples of its own, and bytes filled with them.
-ghost use Rattle.std.specs.Prelude.{◌≡◌, ◌≤◌, ◌<◌, ◌+◌, ◌-◌, ◌*◌, ◌^◌, ◌++◌, length, take, IsSome, OnOk, IfOk};
+ghost use Rattle.std.specs.Prelude.{◌≡◌, ◌≤◌, ◌<◌, ◌+◌, ◌-◌, ◌*◌, ◌^◌, [], ◌∷◌, ◌++◌, length, take, IsSome, OnOk, IfOk};
 ghost use Rattle.conditioner.specs.Conditioned.{block_len};
-ghost use Rattle.entropy_source.specs.Source.{blocks_for, need_of_block};
-ghost use Rattle.entropy_source.specs.Views.{Goes};
-ghost use Rattle.entropy_source.specs.Steps.{Conditions, MakesBlock, Fills};
+ghost use Rattle.entropy_source.specs.Source.{blocks_for, need_of, need_of_block};
+ghost use Rattle.entropy_source.specs.Views.{Goes, HasDrawn};
+ghost use Rattle.entropy_source.specs.Steps.{Conditions, MakesBlock, Fills, EndsDraw};
 
-use crate::answers::SourceRefusal;
+use crate::answers::{Range, SourceRefusal};
 use crate::intake::Intake;
 use conditioner::{Block, block_len, need};
 use rbg_bytes::Fixed;
@@ -68,7 +68,7 @@ impl<S: Samples> Intake<S> {
     }
 
     // Fills bytes with the blocks that follow, one after another; the rest of the last block is let go.
-    pub fn fill(&mut self, out: &mut [u8], buffer: &mut [u8]) -> Result<(), SourceRefusal>
+    fn fill(&mut self, out: &mut [u8], buffer: &mut [u8]) -> Result<(), SourceRefusal>
         requires buffer { length buffer.old ≡ 4096 }
         requires few { length out.old ≤ 4096 }
         requires room { self.old.taken + blocks_for self.old.row (length out.old) * need_of_block self.old.row ≤ 2 ^ 60 }
@@ -85,6 +85,26 @@ impl<S: Samples> Intake<S> {
             }
         }
         Ok(())
+    }
+
+    // A draw from a source that is not in error.
+    pub fn draw(&mut self, out: &mut [u8], buffer: &mut [u8]) -> Result<Range, SourceRefusal>
+        requires buffer { length buffer.old ≡ 4096 }
+        requires few { length out.old ≤ 4096 }
+        requires room { self.old.taken + need_of self.old.row (length out.old ∷ []) ≤ 2 ^ 60 }
+        requires tested { IsSome self.old.tail }
+        ensures acts { Goes S.told S.faults self.old self.new
+            (λ s now. HasDrawn self.old.row (length out.old) out.new result s now × EndsDraw self.old.row (length out.old) result s now) }
+        ensures row { self.new.row ≡ self.old.row }
+    {
+        let from = self.taken();
+        match self.fill(out, buffer) {
+            Ok(()) => Ok(Range {
+                from,
+                to: self.taken(),
+            }),
+            Err(why) => Err(why),
+        }
     }
 }
 

@@ -1,13 +1,13 @@
 // Samples that are read, tested and counted, for the start-up or for one block.
-ghost use Rattle.std.specs.Prelude.{◌≡◌, ◌≤◌, ◌<◌, ◌+◌, ◌-◌, ◌^◌, ℕ, List, [], Some, length, take, min, IsSome, OnOk, IfOk};
+ghost use Rattle.std.specs.Prelude.{◌≡◌, ◌≤◌, ◌<◌, ◌+◌, ◌-◌, ◌^◌, ℕ, List, [], ◌∷◌, Some, length, take, min, IsSome, OnOk, IfOk};
 ghost use Rattle.health_tests.specs.Numbers.{no_tail};
-ghost use Rattle.conditioner.specs.Conditioned.{conditioned};
-ghost use Rattle.entropy_source.specs.Source.{need_of_block};
+ghost use Rattle.entropy_source.specs.Source.{need_of};
 ghost use Rattle.entropy_source.specs.Views.{IsSource, opened_view, Goes, HasStarted};
 ghost use Rattle.entropy_source.specs.Steps.{Comes, WarmsUp, EndsStart};
 
 use crate::answers::{SourceMode, SourceRefusal, SourceRow};
 use crate::stepping::step_all;
+use conditioner::{block_len, need};
 use health_tests::Tests;
 use sample_source::Samples;
 use std::marker::Model;
@@ -64,6 +64,48 @@ impl<S: Samples> Intake<S> {
             alarms: 0,
             mode: SourceMode::Idle,
         }
+    }
+
+    pub fn taken(&self) -> u64
+        ensures taken { result ≡ self.now.taken }
+        ensures source { IsSource self.now }
+    {
+        self.taken
+    }
+
+    pub fn blocks(&self) -> u64
+        ensures blocks { result ≡ self.now.blocks }
+        ensures source { IsSource self.now }
+    {
+        self.blocks
+    }
+
+    pub fn mode(&self) -> SourceMode
+        ensures mode { result ≡ self.now.mode }
+        ensures source { IsSource self.now }
+    {
+        self.mode
+    }
+
+    pub fn startup(&self) -> u32
+        ensures { result ≡ self.now.row.startup }
+    {
+        self.row.startup
+    }
+
+    pub fn fault_count(&self) -> u64
+        ensures { result ≡ S.faults self.now.samples }
+    {
+        self.samples.fault_count()
+    }
+
+    // The samples that a draw of so many bytes takes.
+    pub fn need(&self, bytes: u32) -> u64
+        ensures samples { result ≡ need_of self.now.row (bytes ∷ []) }
+        ensures range { result ≤ 2 ^ 47 }
+    {
+        let blocks = u64::from(bytes).div_ceil(block_len(self.row.cond) as u64);
+        blocks * u64::from(need(self.row.cond, self.row.num, self.row.den))
     }
 
     // One read for what a block or the start-up lacks. Its samples are counted and tested.
