@@ -12,7 +12,7 @@ use Rattle.entropy_source.specs.declared.answers.SourceRefusal.{SourceRefusal}
 use Rattle.entropy_source.specs.declared.answers.SourceRefusal.TheVariants.{SourceSpent, InError, SourceFault, HealthFailed, WantOfEntropy}
 use Rattle.entropy_source.specs.Source.{SourceAct, Began, SourceState, source_after, blocks_for, need_of, need_of_block}
 use Rattle.entropy_source.specs.Draws.{Draws, found_in}
-use Rattle.entropy_source.specs.Views.{SourceView, IsStateOf, Goes, source_state, HasStarted, HasDrawn}
+use Rattle.entropy_source.specs.Views.{SourceView, IsStateOf, Goes, source_state, HasStarted, HasDrawn, error_of}
 use Rattle.entropy_source.specs.Causes.{IfSpent, IfInError, IfFault, IfHealthFailed, IfWant}
 use Rattle.entropy_source.specs.Steps.{IsLeft, LeadsBlocks, StopsBlocks, EndsStart, EndsDraw}
 use Rattle.entropy_source.proofs.Stands.{own_state}
@@ -71,12 +71,12 @@ spent_of s now lacks (SourceFault count) P h = tt
 spent_of s now lacks (HealthFailed index test) P h = tt
 spent_of s now lacks (WantOfEntropy missing) P h = tt
 
-error_of : (s now : SourceState) (lacks : ℕ) (why : SourceRefusal) (P : Cause → Type 0) → IsLeft s now lacks why → IfInError why P
-error_of s now lacks (SourceSpent taken need) P h = tt
-error_of s now lacks (InError cause) P h = absurd h
-error_of s now lacks (SourceFault count) P h = tt
-error_of s now lacks (HealthFailed index test) P h = tt
-error_of s now lacks (WantOfEntropy missing) P h = tt
+in_error_of : (s now : SourceState) (lacks : ℕ) (why : SourceRefusal) (P : Cause → Type 0) → IsLeft s now lacks why → IfInError why P
+in_error_of s now lacks (SourceSpent taken need) P h = tt
+in_error_of s now lacks (InError cause) P h = absurd h
+in_error_of s now lacks (SourceFault count) P h = tt
+in_error_of s now lacks (HealthFailed index test) P h = tt
+in_error_of s now lacks (WantOfEntropy missing) P h = tt
 
 fault_of : (s now : SourceState) (lacks : ℕ) (why : SourceRefusal) → IsLeft s now lacks why
     → IfFault why (λ count. Rose s.faults now.faults × (count ≡ now.faults) × (now.mode ≡ s.mode))
@@ -117,7 +117,7 @@ module _ {T : Type 0} (s now : SourceState) (lacks : ℕ) (Q : Type 0) where
 
   pub error_clause : (result : Result T SourceRefusal) (P : Cause → Type 0) → Ended result → IfErr result (λ why. IfInError why P)
   error_clause (Ok x) P h = tt
-  error_clause (Err why) P h = error_of s now lacks why P h
+  error_clause (Err why) P h = in_error_of s now lacks why P h
 
   pub fault_clause : (result : Result T SourceRefusal) → Ended result
       → IfErr result (λ why. IfFault why (λ count. Rose s.faults now.faults × (count ≡ now.faults) × (now.mode ≡ s.mode)))
@@ -134,28 +134,34 @@ module _ {T : Type 0} (s now : SourceState) (lacks : ℕ) (Q : Type 0) where
   want_clause (Ok x) h = tt
   want_clause (Err why) h = want_of s now lacks why h
 
+-- a source that is not in error runs
+running : (m : SourceMode) → error_of m ≡ None → m ≡ modes.Running
+running modes.Idle h = cc
+running modes.Running h = refl
+running (modes.Alarmed index test) h = cc
+
 -- What a start and a draw come to, of the source itself.
 module _ {S T : Type 0} (told : S → Option (List ℕ)) (faults : S → ℕ) (inside v w : SourceView S) (is : inside ≡ v) (result : Result T SourceRefusal) where
-  pub record Facts (Ok : Type 0) (lacks : ℕ) (left : SourceMode) (Spent : ℕ → ℕ → Type 0) (InFault : Cause → Type 0) : Type 0 where
-    pub ok : OnOk result Ok
+  pub record Facts (Good : Type 0) (lacks : ℕ) (left : SourceMode) (Spent : ℕ → ℕ → Type 0) (InFault : Cause → Type 0) : Type 0 where
+    pub ok : OnOk result Good
     pub spent : IfErr result (λ why. IfSpent why Spent)
     pub error : IfErr result (λ why. IfInError why InFault)
     pub fault : IfErr result (λ why. IfFault why (λ count. Rose (faults v.samples) (faults w.samples) × (count ≡ faults w.samples) × (w.mode ≡ left)))
     pub failed : IfErr result (λ why. IfHealthFailed why (λ index test. (faults w.samples ≡ faults v.samples) × (w.mode ≡ modes.Alarmed index test)))
     pub want : IfErr result (λ why. IfWant why (λ missing. (faults w.samples ≡ faults v.samples) × (w.mode ≡ left) × (0 < missing) × (missing ≤ lacks)))
 
-  facts : (s : SourceState) (o : Option (List ℕ)) (Ok : Type 0) (lacks : ℕ) (Spent : ℕ → ℕ → Type 0) (InFault : Cause → Type 0) → s.faults ≡ faults v.samples
-      → MatchResult result (λ _. Ok) (λ why. IsLeft s (record (source_state told faults w) { told = o }) lacks why) → Facts Ok lacks s.mode Spent InFault
-  facts s o Ok lacks Spent InFault same h = record {
-    ok = ok_clause s (record (source_state told faults w) { told = o }) lacks Ok result h;
-    spent = spent_clause s (record (source_state told faults w) { told = o }) lacks Ok result Spent h;
-    error = error_clause s (record (source_state told faults w) { told = o }) lacks Ok result InFault h;
+  facts : (s : SourceState) (o : Option (List ℕ)) (Good : Type 0) (lacks : ℕ) (Spent : ℕ → ℕ → Type 0) (InFault : Cause → Type 0) → s.faults ≡ faults v.samples
+      → MatchResult result (λ _. Good) (λ why. IsLeft s (record (source_state told faults w) { told = o }) lacks why) → Facts Good lacks s.mode Spent InFault
+  facts s o Good lacks Spent InFault same h = record {
+    ok = ok_clause s (record (source_state told faults w) { told = o }) lacks Good result h;
+    spent = spent_clause s (record (source_state told faults w) { told = o }) lacks Good result Spent h;
+    error = error_clause s (record (source_state told faults w) { told = o }) lacks Good result InFault h;
     fault = subst (λ k. IfErr result (λ why. IfFault why (λ count. Rose k (faults w.samples) × (count ≡ faults w.samples) × (w.mode ≡ s.mode)))) same
-      (fault_clause s (record (source_state told faults w) { told = o }) lacks Ok result h);
+      (fault_clause s (record (source_state told faults w) { told = o }) lacks Good result h);
     failed = subst (λ k. IfErr result (λ why. IfHealthFailed why (λ index test. (faults w.samples ≡ k) × (w.mode ≡ modes.Alarmed index test)))) same
-      (failed_clause s (record (source_state told faults w) { told = o }) lacks Ok result h);
+      (failed_clause s (record (source_state told faults w) { told = o }) lacks Good result h);
     want = subst (λ k. IfErr result (λ why. IfWant why (λ missing. (faults w.samples ≡ k) × (w.mode ≡ s.mode) × (0 < missing) × (missing ≤ lacks)))) same
-      (want_clause s (record (source_state told faults w) { told = o }) lacks Ok result h);
+      (want_clause s (record (source_state told faults w) { told = o }) lacks Good result h);
   }
 
   abbrev StartGoes : SourceView S → Type 0
@@ -176,13 +182,15 @@ module _ {S T : Type 0} (told : S → Option (List ℕ)) (faults : S → ℕ) (i
   DrawGoes n Draw z = Goes told faults z w (λ s now. Draw result s now × EndsDraw z.row n result s now)
 
   pub draw_facts : (n : ℕ) (Draw : Result T SourceRefusal → SourceState → SourceState → Type 0) (Spent : ℕ → ℕ → Type 0) (InFault : Cause → Type 0)
-      → DrawGoes n Draw inside
-      → Facts ((w.mode ≡ v.mode) × (w.taken ≡ v.taken + need_of v.row (n ∷ [])) × (faults w.samples ≡ faults v.samples)) (need_of_block v.row) v.mode Spent InFault
-  draw_facts n Draw Spent InFault h =
+      → error_of inside.mode ≡ None → DrawGoes n Draw inside
+      → Facts ((w.mode ≡ v.mode) × (w.taken ≡ v.taken + need_of v.row (n ∷ [])) × (faults w.samples ≡ faults v.samples)) (need_of_block v.row) modes.Running Spent InFault
+  draw_facts n Draw Spent InFault runs h =
     let (now, stands, x) = subst (λ (z : SourceView S). DrawGoes n Draw z) is h (source_state told faults v) (own_state told faults v) in
-    facts (source_state told faults v) now.told
+    subst (λ m. Facts ((w.mode ≡ v.mode) × (w.taken ≡ v.taken + need_of v.row (n ∷ [])) × (faults w.samples ≡ faults v.samples)) (need_of_block v.row) m Spent InFault)
+    (running v.mode (subst (λ (z : SourceView S). error_of z.mode ≡ None) is runs))
+    (facts (source_state told faults v) now.told
     ((w.mode ≡ v.mode) × (w.taken ≡ v.taken + need_of v.row (n ∷ [])) × (faults w.samples ≡ faults v.samples)) (need_of_block v.row) Spent InFault refl
-    (subst (λ (z : SourceState). EndsDraw v.row n result (source_state told faults v) z) stands.own x.1)
+    (subst (λ (z : SourceState). EndsDraw v.row n result (source_state told faults v) z) stands.own x.1))
 
 -- the acts of a draw, of the source itself
 pub draw_acts : {S : Type 0} (told : S → Option (List ℕ)) (faults : S → ℕ) (inside v w : SourceView S) → inside ≡ v

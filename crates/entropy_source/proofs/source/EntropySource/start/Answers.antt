@@ -7,24 +7,24 @@ returns-clause-acts g c fits =
 
 pub returns-clause-passed : goal.returns-clause-passed
 returns-clause-passed g c =
-    (start_facts g.S.Samples.told g.S.Samples.faults c.self.inside.intake c.args.self.now c.start.new.self c.self.view_is c.start.result _ _ c.start.ensures.acts).ok
+    (start_facts g.S.Samples.told g.S.Samples.faults c.self.inside.intake c.args.self.now c.start.new.self c.self.view_is c.start.result (λ _ _. Unit {0}) (λ _. Unit {0}) c.start.ensures.acts).ok
 
 pub returns-clause-only_spent : goal.returns-clause-only_spent
 returns-clause-only_spent g c =
-    (start_facts g.S.Samples.told g.S.Samples.faults c.self.inside.intake c.args.self.now c.start.new.self c.self.view_is c.start.result _ _ c.start.ensures.acts).spent
+    (start_facts g.S.Samples.told g.S.Samples.faults c.self.inside.intake c.args.self.now c.start.new.self c.self.view_is c.start.result _ (λ _. Unit {0}) c.start.ensures.acts).spent
 
 pub returns-clause-never_in_error : goal.returns-clause-never_in_error
 returns-clause-never_in_error g c =
-    (start_facts g.S.Samples.told g.S.Samples.faults c.self.inside.intake c.args.self.now c.start.new.self c.self.view_is c.start.result _ _ c.start.ensures.acts).error
+    (start_facts g.S.Samples.told g.S.Samples.faults c.self.inside.intake c.args.self.now c.start.new.self c.self.view_is c.start.result (λ _ _. Unit {0}) _ c.start.ensures.acts).error
 
 pub returns-clause-fault : goal.returns-clause-fault
 returns-clause-fault g c =
-    (start_facts g.S.Samples.told g.S.Samples.faults c.self.inside.intake c.args.self.now c.start.new.self c.self.view_is c.start.result _ _ c.start.ensures.acts).fault
+    (start_facts g.S.Samples.told g.S.Samples.faults c.self.inside.intake c.args.self.now c.start.new.self c.self.view_is c.start.result (λ _ _. Unit {0}) (λ _. Unit {0}) c.start.ensures.acts).fault
 
 pub returns-clause-failed : goal.returns-clause-failed
 returns-clause-failed g c =
-    (start_facts g.S.Samples.told g.S.Samples.faults c.self.inside.intake c.args.self.now c.start.new.self c.self.view_is c.start.result _ _ c.start.ensures.acts).failed
+    (start_facts g.S.Samples.told g.S.Samples.faults c.self.inside.intake c.args.self.now c.start.new.self c.self.view_is c.start.result (λ _ _. Unit {0}) (λ _. Unit {0}) c.start.ensures.acts).failed
 
 pub returns-clause-want : goal.returns-clause-want
 returns-clause-want g c =
-    (start_facts g.S.Samples.told g.S.Samples.faults c.self.inside.intake c.args.self.now c.start.new.self c.self.view_is c.start.result _ _ c.start.ensures.acts).want
+    (start_facts g.S.Samples.told g.S.Samples.faults c.self.inside.intake c.args.self.now c.start.new.self c.self.view_is c.start.result (λ _ _. Unit {0}) (λ _. Unit {0}) c.start.ensures.acts).want
