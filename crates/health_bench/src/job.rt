@@ -45,3 +45,37 @@ pub fn read_job(words: &[String]) -> Option<Job>
         times,
     })
 }
+
+#[cfg(test)]
+mod tests {
+    use super::read_job;
+    use std::test::Fail;
+
+    // Whether these words are a job.
+    fn is_job(rt: &HostRuntime, text: &str) -> Result<bool, Fail> {
+        let mut words = Vec::new(rt.alloc());
+        for word in text.split(' ') {
+            words.push(word.to_string(rt.alloc())?)?;
+        }
+        Ok(read_job(&words).is_some())
+    }
+
+    #[test]
+    fn words_have_limits(rt: HostRuntime) -> Result<(), Fail> {
+        for (text, is) in [
+            ("step 1 1", true),
+            ("slice 16777216 1000000", true),
+            ("step 0 1", false),
+            ("step 16777217 1", false),
+            ("step 1 0", false),
+            ("step 1 1000001", false),
+            ("both 1 1", false),
+            ("step 1", false),
+            ("step 1 1 1", false),
+            ("step -1 1", false),
+        ] {
+            assert_eq!(rt; is_job(&rt, text)?, is);
+        }
+        Ok(())
+    }
+}

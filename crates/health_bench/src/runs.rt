@@ -14,6 +14,7 @@ pub struct Totals {
 }
 
 // The first alarm, where the tests get one sample a call.
+#[inline(never)]
 fn by_step(cutoffs: Cutoffs, samples: &[u8]) -> Option<Alarm>
     ensures alarm { result ≡ first_alarm cutoffs samples.now }
     ensures place { IfSome result (λ alarm. alarm.at < length samples.now) }
@@ -29,6 +30,7 @@ fn by_step(cutoffs: Cutoffs, samples: &[u8]) -> Option<Alarm>
 }
 
 // The first alarm, where the tests get all samples in one call.
+#[inline(never)]
 fn by_slice(cutoffs: Cutoffs, samples: &[u8]) -> Option<Alarm>
     ensures alarm { result ≡ first_alarm cutoffs samples.now }
     ensures place { IfSome result (λ alarm. alarm.at < length samples.now) }
