@@ -1,4 +1,3 @@
-mod Tested
 mod Stands
 mod Reading
 mod Joining

@@ -6,7 +6,6 @@ ghost use Rattle.entropy_source.specs.Views.{IsSource, opened_view, Goes, HasSta
 ghost use Rattle.entropy_source.specs.Steps.{Comes, WarmsUp, EndsStart};
 
 use crate::answers::{SourceMode, SourceRefusal, SourceRow};
-use crate::stepping::step_all;
 use conditioner::{block_len, need};
 use health_tests::Tests;
 use sample_source::Samples;
@@ -131,7 +130,7 @@ impl<S: Samples> Intake<S> {
         }
         let from = self.taken;
         self.taken += count as u64;
-        match step_all(&mut self.tests, &piece[..count]) {
+        match self.tests.step_all(&piece[..count]) {
             None => Ok(count),
             Some(alarm) => {
                 let index = from + alarm.at as u64;

@@ -11,7 +11,6 @@ mod answers;
 mod blocks;
 mod intake;
 mod source;
-mod stepping;
 
 pub use answers::{Cause, Range, SourceMode, SourceRefusal, SourceRow};
 pub use source::EntropySource;

@@ -24,7 +24,7 @@ pub returns-in-None-clause-comes : goal.returns-in-None-clause-comes
 returns-in-None-clause-comes g c =
     let i = c.self.inside in
     let e = c.in-Ok.ensures in
-    quiet_read g.S.Samples.told g.S.Samples.faults i.row i.samples c.read.new.self i.tests c.step_all.new.tests i.taken i.blocks i.alarms i.mode c.args.self.now
+    quiet_read g.S.Samples.told g.S.Samples.faults i.row i.samples c.read.new.self i.tests c.step_all.new.self i.taken i.blocks i.alarms i.mode c.args.self.now
     c.args.lacks c.in-Ok.count (take c.in-Ok.count c.read.new.buf) c.self.view_is c.requires.lacking c.requires.tested e.bound.1 (omega arith)
     (omega (arith, e.bound.0, c.requires.asked, c.read.auto.buf)) e.samples.0 e.cause.kept c.self.invariant.1 c.in-None.ensures.answer c.in-None.ensures.numbers
 
@@ -32,6 +32,6 @@ pub returns-in-Some-clause-comes : goal.returns-in-Some-clause-comes
 returns-in-Some-clause-comes g c =
     let i = c.self.inside in
     let e = c.in-Ok.ensures in
-    alarm_read g.S.Samples.told g.S.Samples.faults i.row i.samples c.read.new.self i.tests c.step_all.new.tests i.taken i.blocks i.alarms i.mode c.args.self.now
+    alarm_read g.S.Samples.told g.S.Samples.faults i.row i.samples c.read.new.self i.tests c.step_all.new.self i.taken i.blocks i.alarms i.mode c.args.self.now
     c.args.lacks c.in-Ok.count (take c.in-Ok.count c.read.new.buf) c.self.view_is c.requires.lacking c.requires.tested e.bound.1 (omega arith)
     (omega (arith, e.bound.0, c.requires.asked, c.read.auto.buf)) e.samples.0 e.cause.kept c.self.invariant.1 c.in-Some.alarm c.in-Some.ensures.answer
