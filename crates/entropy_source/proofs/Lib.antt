@@ -5,3 +5,6 @@ mod Starts
 mod Conditioning
 mod Filling
 mod Ends
+pub mod Joins
+pub mod Counts
+mod Answering

@@ -10,7 +10,12 @@
 mod answers;
 mod blocks;
 mod intake;
+mod laws;
 mod source;
 
+#[cfg(test)]
+mod tests;
+
 pub use answers::{Cause, Range, SourceMode, SourceRefusal, SourceRow};
+pub use laws::{draws_end_by_their_reads, starts_end_by_their_reads, states_are_counted};
 pub use source::EntropySource;
