@@ -1,8 +1,9 @@
 -- What is counted on acts in a row: the samples that they read, the blocks, the alarms, the mode in which they leave a source,
 -- and the samples since the tests were fresh.
 -- This project's own.
-use Rattle.std.specs.Prelude.{ℕ, ◌+◌, List, [], ◌∷◌, ◌++◌, Bool, true, false, Some, None}
+use Rattle.std.specs.Prelude.{ℕ, ◌+◌, List, [], ◌∷◌, ◌++◌, Bool, true, false, Option, Some, None, Result, Ok, Err}
 use Rattle.entropy_source.specs.Source.{SourceAct, Began, Read, Alarmed, Started, Block, given}
+use Rattle.entropy_source.specs.declared.answers.SourceRefusal.{SourceRefusal}
 use Rattle.entropy_source.specs.declared.answers.SourceMode.{SourceMode}
 use Rattle.entropy_source.specs.declared.answers.SourceMode.TheVariants as modes
 
@@ -54,3 +55,8 @@ abbrev pub has_failed : List SourceAct → Bool
 has_failed [] = false
 has_failed (Read asked None count ∷ acts) = true
 has_failed (_ ∷ acts) = has_failed acts
+
+-- a result with bytes in front
+abbrev pub behind : List ℕ → Result (List ℕ) SourceRefusal → Result (List ℕ) SourceRefusal
+behind front (Ok bytes) = Ok (front ++ bytes)
+behind front (Err why) = Err why

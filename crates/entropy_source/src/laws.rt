@@ -1,13 +1,13 @@
 // Laws on acts in a row: each is a function without a body, whose contract is the law. No program calls them; they tie the step
 // from state to state to what is counted on all acts, and an answer to its acts.
-ghost use Rattle.std.specs.Prelude.{◌≡◌, ℕ, List, [], length, drop, false, Option, Some, Result};
+ghost use Rattle.std.specs.Prelude.{◌≡◌, ◌+◌, ◌++◌, ℕ, List, [], length, drop, false, Option, Some, Result, Ok};
 ghost use Rattle.std.specs.Option.{option_map};
 ghost use Rattle.health_tests.specs.Windows.{alarm_in};
 ghost use Rattle.health_tests.specs.Numbers.{tail_of, alarm_from};
 ghost use Rattle.health_tests.specs.declared.numbers.Tail.{Tail};
 ghost use Rattle.entropy_source.specs.Source.{SourceAct, SourceState, opened_source, source_after_all};
-ghost use Rattle.entropy_source.specs.Draws.{Drawn, Start, found_in};
-ghost use Rattle.entropy_source.specs.Counted.{samples_of, blocks_of, alarms_of, mode_after, tested_after, alarmed_after};
+ghost use Rattle.entropy_source.specs.Draws.{Draws, Drawn, Start, found_in};
+ghost use Rattle.entropy_source.specs.Counted.{samples_of, blocks_of, alarms_of, mode_after, tested_after, alarmed_after, behind};
 ghost use Rattle.entropy_source.specs.Outcomes.{Outcome};
 ghost use Rattle.entropy_source.specs.declared.answers.SourceRow.{SourceRow};
 ghost use Rattle.entropy_source.specs.declared.answers.SourceRefusal.{SourceRefusal};
@@ -42,4 +42,14 @@ pub fn starts_end_by_their_reads()
 pub fn draws_end_by_their_reads()
     ensures { (row : SourceRow) (t : Tail) (s : SourceState) (wants : List ℕ) (acts : List SourceAct) (result : Result (List ℕ) SourceRefusal) →
         Drawn row (found_in row.cutoffs (Some t)) s wants acts result → Outcome s.taken (alarm_from row.cutoffs t (samples_of acts)) acts result }
+{}
+
+/// A draw of blocks that was answered, and another from the state that it left: together they are one draw of all the blocks,
+/// with the bytes of both. Each tells alarms by what the tests keep at its own beginning.
+pub fn draws_join()
+    ensures { (row : SourceRow) (t : Tail) (n m : ℕ) (s : SourceState) (acts : List SourceAct) (mid : List ℕ) (more : List SourceAct)
+        (end : Result (List ℕ) SourceRefusal) → s.tail ≡ Some t →
+        Draws row (found_in row.cutoffs (Some t)) n s [] [] acts (Ok mid) →
+        Draws row (found_in row.cutoffs (source_after_all row s acts).tail) m (source_after_all row s acts) [] [] more end →
+        Draws row (found_in row.cutoffs (Some t)) (n + m) s [] [] (acts ++ more) (behind mid end) }
 {}

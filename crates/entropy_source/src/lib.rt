@@ -4,7 +4,8 @@
 //! - `answers`: what is set of a source, and what its calls answer;
 //! - `intake`: samples that are read, tested and counted, and the samples of a start-up;
 //! - `blocks`: conditioned blocks, and bytes filled with them;
-//! - `source`: the source with its calls.
+//! - `source`: the source with its calls;
+//! - `laws`: what is counted on all acts of a source, which answer comes, and two draws as one.
 #![tactic(auto)]
 
 mod answers;
@@ -17,5 +18,7 @@ mod source;
 mod tests;
 
 pub use answers::{Cause, Range, SourceMode, SourceRefusal, SourceRow};
-pub use laws::{draws_end_by_their_reads, starts_end_by_their_reads, states_are_counted};
+pub use laws::{
+    draws_end_by_their_reads, draws_join, starts_end_by_their_reads, states_are_counted,
+};
 pub use source::EntropySource;
