@@ -27,33 +27,39 @@ module _ {S : Type 0} (told : S → Option (List ℕ)) (faults : S → ℕ) (row
 
   pub held_none : (v : SourceView S) (block : held.Block) (cond : Cond) (total : ℕ) → cond ≡ row.cond → total ≡ need_of_block row
       → HoldsSamples block cond total [] → Held v v block total
-  held_none v block cond total c n h s st = (s, st, ([],
-    subst (λ k. Leads row s s (need_of_block row) k []) (sym n) (leads_none row s (need_of_block row)),
-    subst (λ k. HoldsSamples block row.cond k []) n (subst (λ z. HoldsSamples block z total []) c h)))
+  held_none v block cond total c n h s st = (
+    s,
+    st,
+    (
+      [],
+      subst (λ k. Leads row s s (need_of_block row) k []) (sym n) (leads_none row s (need_of_block row)),
+      subst (λ k. HoldsSamples block row.cond k []) n (subst (λ z. HoldsSamples block z total []) c h),
+    ),
+  )
 
   pub held_more : (v m w : SourceView S) (block next : held.Block) (left rest : ℕ) (more : List ℕ) → Held v m block left → m.row ≡ row
       → Goes told faults m w (λ s now. Leads m.row s now left rest more)
       → ((got : List ℕ) → HoldsSamples block row.cond (need_of_block row) got → HoldsSamples next row.cond (need_of_block row) (got ++ more))
       → Held v w next rest
   held_more v m w block next left rest more a is b push s st =
-    let (mid, mid_stands, (got, first, holds)) = a s st in
-    let (now, stands, second) = b mid mid_stands in
-    (now, stands, (got ++ more, leads_more row s mid now (need_of_block row) left got first rest more (subst (λ r. Leads r mid now left rest more) is second), push got holds))
+      let (mid, mid_stands, (got, first, holds)) = a s st in
+      let (now, stands, second) = b mid mid_stands in
+      (now, stands, (got ++ more, leads_more row s mid now (need_of_block row) left got first rest more (subst (λ r. Leads r mid now left rest more) is second), push got holds))
 
   pub held_stops : (v m w : SourceView S) (block : held.Block) (left : ℕ) (why : SourceRefusal) → Held v m block left → m.row ≡ row
       → Goes told faults m w (λ s now. Stops m.row s now left why) → Goes told faults v w (λ s now. Stops row s now (need_of_block row) why)
   held_stops v m w block left why a is b s st =
-    let (mid, mid_stands, (got, first, holds)) = a s st in
-    let (now, stands, second) = b mid mid_stands in
-    (now, stands, leads_stops row s mid now (need_of_block row) left got first why (subst (λ r. Stops r mid now left why) is second))
+      let (mid, mid_stands, (got, first, holds)) = a s st in
+      let (now, stands, second) = b mid mid_stands in
+      (now, stands, leads_stops row s mid now (need_of_block row) left got first why (subst (λ r. Stops r mid now left why) is second))
 
   pub held_all : (v w : SourceView S) (block : held.Block) (left : ℕ) (bytes : List ℕ) → left ≡ 0 → Held v w block left
       → ((got : List ℕ) → HoldsSamples block row.cond (need_of_block row) got → length got ≡ need_of_block row → bytes ≡ conditioned row.cond got)
       → Goes told faults v w (λ s now. (got : List ℕ) × Leads row s now (need_of_block row) 0 got × (bytes ≡ conditioned row.cond got))
   held_all v w block left bytes none a done s st =
-    let (now, stands, (got, leads, holds)) = a s st in
-    let count : length got ≡ need_of_block row = omega (arith, leads.count) in
-    (now, stands, (got, subst (λ k. Leads row s now (need_of_block row) k got) none leads, done got holds count))
+      let (now, stands, (got, leads, holds)) = a s st in
+      let count : length got ≡ need_of_block row = omega (arith, leads.count) in
+      (now, stands, (got, subst (λ k. Leads row s now (need_of_block row) k got) none leads, done got holds count))
 
 -- Blocks one after another.
 module _ (row : SourceRow) (s : SourceState) where
@@ -77,11 +83,19 @@ module _ (row : SourceRow) (s : SourceState) where
       faults = ap (λ (z : SourceState). z.faults) made_is ∙ x.others.faults;
     };
     goes = λ t read before more end tl d. (
-      x.acts, made ∷ more, Ok got, append_assoc x.acts (made ∷ []) more, gathered_all row s now need got x t [] read tl, (more, refl,
-      subst (λ (z : SourceState). Draws row (found t) left (source_after row z made) (read ++ got) (before ++ conditioned row.cond got) more end) x.state
-        (subst (λ b. Draws row (found t) left (source_after row now made) (read ++ got) (before ++ b) more end) is
-          (subst (λ (z : SourceState). Draws row (found t) left z (read ++ got) (before ++ bytes) more end) made_is d)),
-    ));
+      x.acts,
+      made ∷ more,
+      Ok got,
+      append_assoc x.acts (made ∷ []) more,
+      gathered_all row s now need got x t [] read tl,
+      (
+        more,
+        refl,
+        subst (λ (z : SourceState). Draws row (found t) left (source_after row z made) (read ++ got) (before ++ conditioned row.cond got) more end) x.state
+            (subst (λ b. Draws row (found t) left (source_after row now made) (read ++ got) (before ++ b) more end) is
+            (subst (λ (z : SourceState). Draws row (found t) left z (read ++ got) (before ++ bytes) more end) made_is d)),
+      ),
+    );
   } where
     made : SourceAct
     made = Block s.taken (source_after_all row s x.acts).taken (conditioned row.cond got)
@@ -103,7 +117,7 @@ module _ (row : SourceRow) (s : SourceState) where
     taken = refl;
     others = record { mode = refl; alarms = refl; faults = refl };
     goes = λ t read before more end tl d.
-      subst (λ z. Draws row (found t) n s z before more end) (append-nil read) (subst (λ z. Draws row (found t) n s (read ++ []) z more end) (append-nil before) d);
+        subst (λ z. Draws row (found t) n s z before more end) (append-nil read) (subst (λ z. Draws row (found t) n s (read ++ []) z more end) (append-nil before) d);
   }
 
   module _ (mid now : SourceState) (n left : ℕ) (bytes : List ℕ) (a : LeadsBlocks row s mid n left bytes) where
@@ -123,11 +137,11 @@ module _ (row : SourceRow) (s : SourceState) where
         faults = b.others.faults ∙ a.others.faults;
       };
       goes = λ t read before rest' end tl d.
-        subst (λ z. Draws row (found t) n s read before z end) (sym (append_assoc a.acts b.acts rest'))
-        (a.goes t read before (b.acts ++ rest') end tl
+          subst (λ z. Draws row (found t) n s read before z end) (sym (append_assoc a.acts b.acts rest'))
+          (a.goes t read before (b.acts ++ rest') end tl
           (b.goes t (read ++ a.got) (before ++ bytes) rest' end (tail_mid t read tl)
-            (subst (λ z. Draws row (found t) rest now z ((before ++ bytes) ++ more) rest' end) (sym (append_assoc read a.got b.got))
-              (subst (λ z. Draws row (found t) rest now (read ++ (a.got ++ b.got)) z rest' end) (sym (append_assoc before bytes more)) d))));
+          (subst (λ z. Draws row (found t) rest now z ((before ++ bytes) ++ more) rest' end) (sym (append_assoc read a.got b.got))
+          (subst (λ z. Draws row (found t) rest now (read ++ (a.got ++ b.got)) z rest' end) (sym (append_assoc before bytes more)) d))));
     }
 
     pub blocks_stop : (why : SourceRefusal) → StopsBlocks row mid now left why → StopsBlocks row s now n why
@@ -144,17 +158,17 @@ module _ {S : Type 0} (told : S → Option (List ℕ)) (faults : S → ℕ) wher
       → Goes told faults v m (λ s now. (got : List ℕ) × Leads v.row s now (need_of_block v.row) 0 got × (bytes ≡ conditioned v.row.cond got))
       → Goes told faults v w (λ s now. (left : ℕ) → LeadsBlocks v.row s now (suc left) left bytes)
   makes v m w bytes is h s st =
-    let (now, stands, (got, leads, block)) = h s st in (
-      record now { blocks = now.blocks + 1 },
-      subst (λ (z : SourceView S). IsStateOf told faults z (record now { blocks = now.blocks + 1 })) (sym is) (record {
-        own =
-          state_is (record now { blocks = now.blocks + 1 }) m.taken (m.blocks + 1) m.alarms m.mode m.tail (faults m.samples)
-          (ap (λ (z : SourceState). z.taken) stands.own) (ap (λ (z : SourceState). z.blocks + 1) stands.own) (ap (λ (z : SourceState). z.alarms) stands.own)
-          (ap (λ (z : SourceState). z.mode) stands.own) (ap (λ (z : SourceState). z.tail) stands.own) (ap (λ (z : SourceState). z.faults) stands.own);
-        tells = stands.tells;
-      }),
-      λ left. one_block v.row s now got bytes leads block (record now { blocks = now.blocks + 1 }) refl left,
-    )
+      let (now, stands, (got, leads, block)) = h s st in (
+        record now { blocks = now.blocks + 1 },
+        subst (λ (z : SourceView S). IsStateOf told faults z (record now { blocks = now.blocks + 1 })) (sym is) (record {
+          own =
+              state_is (record now { blocks = now.blocks + 1 }) m.taken (m.blocks + 1) m.alarms m.mode m.tail (faults m.samples)
+              (ap (λ (z : SourceState). z.taken) stands.own) (ap (λ (z : SourceState). z.blocks + 1) stands.own) (ap (λ (z : SourceState). z.alarms) stands.own)
+              (ap (λ (z : SourceState). z.mode) stands.own) (ap (λ (z : SourceState). z.tail) stands.own) (ap (λ (z : SourceState). z.faults) stands.own);
+          tells = stands.tells;
+        }),
+        λ left. one_block v.row s now got bytes leads block (record now { blocks = now.blocks + 1 }) refl left,
+      )
 
   pub makes_none : (v w : SourceView S) (why : SourceRefusal) → Goes told faults v w (λ s now. Stops v.row s now (need_of_block v.row) why)
       → Goes told faults v w (λ s now. (left : ℕ) → StopsBlocks v.row s now (suc left) why)
@@ -165,5 +179,5 @@ module _ {S : Type 0} (told : S → Option (List ℕ)) (faults : S → ℕ) wher
       → Goes told faults v m (λ s now. (got : List ℕ) × Leads v.row s now (need_of_block v.row) 0 got × (bytes ≡ conditioned v.row.cond got))
       → length bytes ≡ block_len v.row.cond
   made_len v m bytes h =
-    let (now, stands, (got, leads, block)) = h (source_state told faults v) (own_state told faults v) in
-    ap (length {A = ℕ}) block ∙ length-conditioned v.row.cond got
+      let (now, stands, (got, leads, block)) = h (source_state told faults v) (own_state told faults v) in
+      ap (length {A = ℕ}) block ∙ length-conditioned v.row.cond got

@@ -49,8 +49,8 @@ module _ (row : SourceRow) where
   told_in s [] = none_dropped s.told
   told_in s (Began ∷ acts) = told_in (source_after row s Began) acts
   told_in s (Read asked got count ∷ acts) =
-    told_in (source_after row s (Read asked got count)) acts
-    ∙ (dropped (length (given got)) (length (samples_of acts)) s.told ∙ ap (λ n. option_map (λ xs. drop n xs) s.told) (sym (length-append (given got) (samples_of acts))))
+      told_in (source_after row s (Read asked got count)) acts
+      ∙ (dropped (length (given got)) (length (samples_of acts)) s.told ∙ ap (λ n. option_map (λ xs. drop n xs) s.told) (sym (length-append (given got) (samples_of acts))))
   told_in s (Alarmed index test ∷ acts) = told_in (source_after row s (Alarmed index test)) acts
   told_in s (Started ∷ acts) = told_in (source_after row s Started) acts
   told_in s (Block from to bytes ∷ acts) = told_in (source_after row s (Block from to bytes)) acts
@@ -85,5 +85,5 @@ module _ (row : SourceRow) where
   pub tail_quiet : (told : Option (List ℕ)) (faults : ℕ) (acts : List SourceAct) → alarmed_after false acts ≡ false
       → (source_after_all row (opened_source told faults) acts).tail ≡ Some (tail_of row.cutoffs.window (tested_after [] acts))
   tail_quiet told faults acts none =
-    subst (λ b. Keeps b (tested_after [] acts) (source_after_all row (opened_source told faults) acts).tail) none
-    (tail_in false [] (opened_source told faults) acts (ap Some (sym (tail_begins row.cutoffs.window))))
+      subst (λ b. Keeps b (tested_after [] acts) (source_after_all row (opened_source told faults) acts).tail) none
+      (tail_in false [] (opened_source told faults) acts (ap Some (sym (tail_begins row.cutoffs.window))))

@@ -37,31 +37,43 @@ module _ {S : Type 0} (told : S → Option (List ℕ)) (faults : S → ℕ) (v w
       → Goes told faults v w (λ s now. (bytes : List ℕ) × LeadsBlocks v.row s now (blocks_for v.row n) 0 bytes × (out ≡ take (length out) bytes))
       → Goes told faults v w (λ s now. HasDrawn v.row n out (Ok (record { from = from; to = to })) s now × EndsDraw {T = Range} v.row n (Ok (record { from = from; to = to })) s now)
   drawn from to len first last some h s st =
-    let (now, stands, (bytes, x, is)) = h s st in
-    let whole : ℕ → ℕ → Result Range SourceRefusal = λ a b. Ok (record { from = a; to = b }) in
-    let range : whole from to ≡ whole s.taken now.taken =
-      ap (λ a. whole a to) (first ∙ sym (ap (λ (z : SourceState). z.taken) st.own)) ∙ ap (whole s.taken) (last ∙ sym (ap (λ (z : SourceState). z.taken) stands.own)) in
-    (now, stands, (record {
-      acts = x.acts;
-      bytes = Ok bytes;
-      draw = found_of s (tested s st some) x.acts (Ok bytes) (λ t tl.
-        subst (λ z. Draws v.row (found_in v.row.cutoffs (Some t)) (blocks_for v.row n) s [] [] z (Ok bytes)) (append-nil x.acts) (x.goes t [] [] [] (Ok bytes) tl (refl, refl)));
-      state = x.state;
-      answer = (range, is ∙ ap (λ k. take k bytes) len);
-    }, (x.others.mode, omega (arith, x.taken, zero-mul (need_of_block v.row), ap (λ k. k * need_of_block v.row) one_want), x.others.faults)))
+      let (now, stands, (bytes, x, is)) = h s st in
+      let whole : ℕ → ℕ → Result Range SourceRefusal = λ a b. Ok (record { from = a; to = b }) in
+      let range : whole from to ≡ whole s.taken now.taken =
+      ap (λ a. whole a to) (first ∙ sym (ap (λ (z : SourceState). z.taken) st.own)) ∙ ap (whole s.taken) (last ∙ sym (ap (λ (z : SourceState). z.taken) stands.own)) in (
+        now,
+        stands,
+        (
+          record {
+            acts = x.acts;
+            bytes = Ok bytes;
+            draw = found_of s (tested s st some) x.acts (Ok bytes) (λ t tl.
+                subst (λ z. Draws v.row (found_in v.row.cutoffs (Some t)) (blocks_for v.row n) s [] [] z (Ok bytes)) (append-nil x.acts) (x.goes t [] [] [] (Ok bytes) tl (refl, refl)));
+            state = x.state;
+            answer = (range, is ∙ ap (λ k. take k bytes) len);
+          },
+          (x.others.mode, omega (arith, x.taken, zero-mul (need_of_block v.row), ap (λ k. k * need_of_block v.row) one_want), x.others.faults),
+        ),
+      )
 
   pub not_drawn : (why : SourceRefusal) → IsSome v.tail
       → Goes told faults v w (λ s now. StopsBlocks v.row s now (blocks_for v.row n) why)
       → Goes told faults v w (λ s now. HasDrawn v.row n out (Err why) s now × EndsDraw {T = Range} v.row n (Err why) s now)
   not_drawn why some h s st =
-    let (now, stands, x) = h s st in
-    (now, stands, (record {
-      acts = x.acts;
-      bytes = Err why;
-      draw = found_of s (tested s st some) x.acts (Err why) (λ t tl. x.ends t [] [] tl);
-      state = x.state;
-      answer = refl;
-    }, x.left))
+      let (now, stands, x) = h s st in (
+        now,
+        stands,
+        (
+          record {
+            acts = x.acts;
+            bytes = Err why;
+            draw = found_of s (tested s st some) x.acts (Err why) (λ t tl. x.ends t [] [] tl);
+            state = x.state;
+            answer = refl;
+          },
+          x.left,
+        ),
+      )
 
 -- what a refusal after some reads is not, and what is so after it
 spent_of : (s now : SourceState) (lacks : ℕ) (why : SourceRefusal) (P : ℕ → ℕ → Type 0) → IsLeft s now lacks why → IfSpent why P
@@ -157,11 +169,11 @@ module _ {S T : Type 0} (told : S → Option (List ℕ)) (faults : S → ℕ) (i
     spent = spent_clause s (record (source_state told faults w) { told = o }) lacks Good result Spent h;
     error = error_clause s (record (source_state told faults w) { told = o }) lacks Good result InFault h;
     fault = subst (λ k. IfErr result (λ why. IfFault why (λ count. Rose k (faults w.samples) × (count ≡ faults w.samples) × (w.mode ≡ s.mode)))) same
-      (fault_clause s (record (source_state told faults w) { told = o }) lacks Good result h);
+        (fault_clause s (record (source_state told faults w) { told = o }) lacks Good result h);
     failed = subst (λ k. IfErr result (λ why. IfHealthFailed why (λ index test. (faults w.samples ≡ k) × (w.mode ≡ modes.Alarmed index test)))) same
-      (failed_clause s (record (source_state told faults w) { told = o }) lacks Good result h);
+        (failed_clause s (record (source_state told faults w) { told = o }) lacks Good result h);
     want = subst (λ k. IfErr result (λ why. IfWant why (λ missing. (faults w.samples ≡ k) × (w.mode ≡ s.mode) × (0 < missing) × (missing ≤ lacks)))) same
-      (want_clause s (record (source_state told faults w) { told = o }) lacks Good result h);
+        (want_clause s (record (source_state told faults w) { told = o }) lacks Good result h);
   }
 
   abbrev StartGoes : SourceView S → Type 0
@@ -173,10 +185,10 @@ module _ {S T : Type 0} (told : S → Option (List ℕ)) (faults : S → ℕ) (i
   pub start_facts : (Spent : ℕ → ℕ → Type 0) (InFault : Cause → Type 0) → StartGoes inside
       → Facts ((w.mode ≡ modes.Running) × (w.taken ≡ v.taken + v.row.startup) × (faults w.samples ≡ faults v.samples)) v.row.startup modes.Idle Spent InFault
   start_facts Spent InFault h =
-    let (now, stands, x) = subst (λ (z : SourceView S). StartGoes z) is h (source_state told faults v) (own_state told faults v) in
-    facts (source_after v.row (source_state told faults v) Began) now.told
-    ((w.mode ≡ modes.Running) × (w.taken ≡ v.taken + v.row.startup) × (faults w.samples ≡ faults v.samples)) v.row.startup Spent InFault refl
-    (subst (λ (z : SourceState). EndsStart v.row result (source_state told faults v) z) stands.own x.1)
+      let (now, stands, x) = subst (λ (z : SourceView S). StartGoes z) is h (source_state told faults v) (own_state told faults v) in
+      facts (source_after v.row (source_state told faults v) Began) now.told
+      ((w.mode ≡ modes.Running) × (w.taken ≡ v.taken + v.row.startup) × (faults w.samples ≡ faults v.samples)) v.row.startup Spent InFault refl
+      (subst (λ (z : SourceState). EndsStart v.row result (source_state told faults v) z) stands.own x.1)
 
   abbrev DrawGoes : ℕ → (Result T SourceRefusal → SourceState → SourceState → Type 0) → SourceView S → Type 0
   DrawGoes n Draw z = Goes told faults z w (λ s now. Draw result s now × EndsDraw z.row n result s now)
@@ -185,12 +197,12 @@ module _ {S T : Type 0} (told : S → Option (List ℕ)) (faults : S → ℕ) (i
       → error_of inside.mode ≡ None → DrawGoes n Draw inside
       → Facts ((w.mode ≡ v.mode) × (w.taken ≡ v.taken + need_of v.row (n ∷ [])) × (faults w.samples ≡ faults v.samples)) (need_of_block v.row) modes.Running Spent InFault
   draw_facts n Draw Spent InFault runs h =
-    let (now, stands, x) = subst (λ (z : SourceView S). DrawGoes n Draw z) is h (source_state told faults v) (own_state told faults v) in
-    subst (λ m. Facts ((w.mode ≡ v.mode) × (w.taken ≡ v.taken + need_of v.row (n ∷ [])) × (faults w.samples ≡ faults v.samples)) (need_of_block v.row) m Spent InFault)
-    (running v.mode (subst (λ (z : SourceView S). error_of z.mode ≡ None) is runs))
-    (facts (source_state told faults v) now.told
-    ((w.mode ≡ v.mode) × (w.taken ≡ v.taken + need_of v.row (n ∷ [])) × (faults w.samples ≡ faults v.samples)) (need_of_block v.row) Spent InFault refl
-    (subst (λ (z : SourceState). EndsDraw v.row n result (source_state told faults v) z) stands.own x.1))
+      let (now, stands, x) = subst (λ (z : SourceView S). DrawGoes n Draw z) is h (source_state told faults v) (own_state told faults v) in
+      subst (λ m. Facts ((w.mode ≡ v.mode) × (w.taken ≡ v.taken + need_of v.row (n ∷ [])) × (faults w.samples ≡ faults v.samples)) (need_of_block v.row) m Spent InFault)
+      (running v.mode (subst (λ (z : SourceView S). error_of z.mode ≡ None) is runs))
+      (facts (source_state told faults v) now.told
+      ((w.mode ≡ v.mode) × (w.taken ≡ v.taken + need_of v.row (n ∷ [])) × (faults w.samples ≡ faults v.samples)) (need_of_block v.row) Spent InFault refl
+      (subst (λ (z : SourceState). EndsDraw v.row n result (source_state told faults v) z) stands.own x.1))
 
 -- the acts of a draw, of the source itself
 pub draw_acts : {S : Type 0} (told : S → Option (List ℕ)) (faults : S → ℕ) (inside v w : SourceView S) → inside ≡ v

@@ -42,8 +42,8 @@ module _ (row : SourceRow) (s : SourceState) where
     blocks = refl;
     others = record { mode = refl; alarms = refl; faults = refl };
     goes = λ t has read more end tl g.
-      subst (λ z. Gathers row (found_in row.cutoffs (Some t)) lacks s z read more end) (append-nil has)
-      (subst (λ z. Gathers row (found_in row.cutoffs (Some t)) lacks s (has ++ []) z more end) (append-nil read) g);
+        subst (λ z. Gathers row (found_in row.cutoffs (Some t)) lacks s z read more end) (append-nil has)
+        (subst (λ z. Gathers row (found_in row.cutoffs (Some t)) lacks s (has ++ []) z more end) (append-nil read) g);
   }
 
   module _ (mid now : SourceState) (lacks left : ℕ) (got : List ℕ) (a : Leads row s mid lacks left got) where
@@ -67,11 +67,11 @@ module _ (row : SourceRow) (s : SourceState) where
         faults = b.others.faults ∙ a.others.faults;
       };
       goes = λ t has read rest' end tl g.
-        subst (λ z. Gathers row (found_in row.cutoffs (Some t)) lacks s has read z end) (sym (append_assoc a.acts b.acts rest'))
-        (a.goes t has read (b.acts ++ rest') end tl
+          subst (λ z. Gathers row (found_in row.cutoffs (Some t)) lacks s has read z end) (sym (append_assoc a.acts b.acts rest'))
+          (a.goes t has read (b.acts ++ rest') end tl
           (b.goes t (has ++ got) (read ++ got) rest' end (tail_mid t read tl)
-            (subst (λ z. Gathers row (found_in row.cutoffs (Some t)) rest now z ((read ++ got) ++ more) rest' end) (sym (append_assoc has got more))
-              (subst (λ z. Gathers row (found_in row.cutoffs (Some t)) rest now (has ++ (got ++ more)) z rest' end) (sym (append_assoc read got more)) g))));
+          (subst (λ z. Gathers row (found_in row.cutoffs (Some t)) rest now z ((read ++ got) ++ more) rest' end) (sym (append_assoc has got more))
+          (subst (λ z. Gathers row (found_in row.cutoffs (Some t)) rest now (has ++ (got ++ more)) z rest' end) (sym (append_assoc read got more)) g))));
     }
 
     pub leads_stops : (why : SourceRefusal) → Stops row mid now left why → Stops row s now lacks why
@@ -104,16 +104,16 @@ module _ {S : Type 0} (told : S → Option (List ℕ)) (faults : S → ℕ) (row
   pub left_more : (v m w : SourceView S) (left rest : ℕ) (more : List ℕ) → Left v m left → m.row ≡ row
       → Goes told faults m w (λ s now. Leads m.row s now left rest more) → Left v w rest
   left_more v m w left rest more a is b s st =
-    let (mid, mid_stands, (got, first)) = a s st in
-    let (now, stands, second) = b mid mid_stands in
-    (now, stands, (got ++ more, leads_more row s mid now lacks left got first rest more (subst (λ r. Leads r mid now left rest more) is second)))
+      let (mid, mid_stands, (got, first)) = a s st in
+      let (now, stands, second) = b mid mid_stands in
+      (now, stands, (got ++ more, leads_more row s mid now lacks left got first rest more (subst (λ r. Leads r mid now left rest more) is second)))
 
   pub left_stops : (v m w : SourceView S) (left : ℕ) (why : SourceRefusal) → Left v m left → m.row ≡ row
       → Goes told faults m w (λ s now. Stops m.row s now left why) → Goes told faults v w (λ s now. Stops row s now lacks why)
   left_stops v m w left why a is b s st =
-    let (mid, mid_stands, (got, first)) = a s st in
-    let (now, stands, second) = b mid mid_stands in
-    (now, stands, leads_stops row s mid now lacks left got first why (subst (λ r. Stops r mid now left why) is second))
+      let (mid, mid_stands, (got, first)) = a s st in
+      let (now, stands, second) = b mid mid_stands in
+      (now, stands, leads_stops row s mid now lacks left got first why (subst (λ r. Stops r mid now left why) is second))
 
 -- what is so of a source after reads without an alarm
 pub read_facts : {S : Type 0} (told : S → Option (List ℕ)) (faults : S → ℕ) (row : SourceRow) (lacks left : ℕ) (got : List ℕ) (v w : SourceView S)
@@ -122,10 +122,10 @@ pub read_facts : {S : Type 0} (told : S → Option (List ℕ)) (faults : S → �
 read_facts told faults row lacks left got v w h some =
     let (now, st, leads) = h (source_state told faults v) (own_state told faults v) in
     (by now w.tail (ap (λ (z : SourceState). z.tail) st.own) v.tail some leads.keeps, sym (ap (λ (z : SourceState). z.taken) st.own) ∙ leads.taken, leads.count) where
-    by : (now : SourceState) (p : Option Tail) → now.tail ≡ p → (o : Option Tail) → IsSome o
-        → ((t : Tail) → o ≡ Some t → now.tail ≡ Some (tail_after row.cutoffs.window t got)) → IsSome p
-    by now p e None some keeps = cc
-    by now p e (Some t) some keeps = subst (λ (o : Option Tail). IsSome o) (sym (keeps t refl) ∙ e) refl
+      by : (now : SourceState) (p : Option Tail) → now.tail ≡ p → (o : Option Tail) → IsSome o
+          → ((t : Tail) → o ≡ Some t → now.tail ≡ Some (tail_after row.cutoffs.window t got)) → IsSome p
+      by now p e None some keeps = cc
+      by now p e (Some t) some keeps = subst (λ (o : Option Tail). IsSome o) (sym (keeps t refl) ∙ e) refl
 
 -- the number of blocks after reads without an alarm
 pub same_blocks : {S : Type 0} (told : S → Option (List ℕ)) (faults : S → ℕ) (row : SourceRow) (lacks left : ℕ) (got : List ℕ) (v w : SourceView S)

@@ -32,15 +32,19 @@ module _ (row : SourceRow) (s : SourceState) (lacks count : ℕ) (lacking : 0 < 
   reads : (tail : Tail) → s.tail ≡ Some tail → (got : List ℕ) → 0 < length got → Answers s (min 4096 lacks) (Some got) count
       → (t : Tail) (has read : List ℕ) (more : List SourceAct) (end : Result (List ℕ) SourceRefusal) → s.tail ≡ Some (tail_after row.cutoffs.window t read)
       → MatchOption (alarm_from row.cutoffs tail got)
-        (Gathers row (found_in row.cutoffs (Some t)) (lacks - length got) (source_after row s (act (Some got))) (has ++ got) (read ++ got) more end)
-        (λ a. (more ≡ Alarmed (s.taken + a.at) a.test ∷ []) × (end ≡ Err (HealthFailed (s.taken + a.at) a.test)))
+      (Gathers row (found_in row.cutoffs (Some t)) (lacks - length got) (source_after row s (act (Some got))) (has ++ got) (read ++ got) more end)
+      (λ a. (more ≡ Alarmed (s.taken + a.at) a.test ∷ []) × (end ≡ Err (HealthFailed (s.taken + a.at) a.test)))
       → Gathers row (found_in row.cutoffs (Some t)) lacks s has read (act (Some got) ∷ more) end
   reads tail is [] some a t has read more end tl m = absurd (omega arith)
-  reads tail is (x ∷ xs) some a t has read more end tl m =
-    (lacking, refl, a, subst (λ (z : Tail). MatchOption (alarm_from row.cutoffs z (x ∷ xs))
+  reads tail is (x ∷ xs) some a t has read more end tl m = (
+    lacking,
+    refl,
+    a,
+    subst (λ (z : Tail). MatchOption (alarm_from row.cutoffs z (x ∷ xs))
         (Gathers row (found_in row.cutoffs (Some t)) (lacks - length (x ∷ xs)) (source_after row s (act (Some (x ∷ xs)))) (has ++ x ∷ xs) (read ++ x ∷ xs) more end)
         (λ a. (more ≡ Alarmed (s.taken + a.at) a.test ∷ []) × (end ≡ Err (HealthFailed (s.taken + a.at) a.test))))
-      (some_same (sym is ∙ tl)) m)
+        (some_same (sym is ∙ tl)) m,
+  )
 
   pub leads_one : (tail : Tail) → s.tail ≡ Some tail → (got : List ℕ) → 0 < length got → Answers s (min 4096 lacks) (Some got) count
       → alarm_from row.cutoffs tail got ≡ None → Leads row s (source_after row s (act (Some got))) lacks (lacks - length got) got
@@ -53,7 +57,7 @@ module _ (row : SourceRow) (s : SourceState) (lacks count : ℕ) (lacking : 0 < 
     blocks = refl;
     others = record { mode = refl; alarms = refl; faults = a.cause };
     goes = λ t has read more end tl g. reads tail is got some a t has read more end tl
-      (subst (λ (z : Option Alarm). MatchOption z
+        (subst (λ (z : Option Alarm). MatchOption z
         (Gathers row (found_in row.cutoffs (Some t)) (lacks - length got) (source_after row s (act (Some got))) (has ++ got) (read ++ got) more end)
         (λ a. (more ≡ Alarmed (s.taken + a.at) a.test ∷ []) × (end ≡ Err (HealthFailed (s.taken + a.at) a.test)))) (sym none) g);
   }
@@ -62,20 +66,20 @@ module _ (row : SourceRow) (s : SourceState) (lacks count : ℕ) (lacking : 0 < 
       → (alarm : Alarm) → alarm_from row.cutoffs tail got ≡ Some alarm
       → Stops row s (source_after row (source_after row s (act (Some got))) (Alarmed (s.taken + alarm.at) alarm.test)) lacks (HealthFailed (s.taken + alarm.at) alarm.test)
   stops_alarmed tail is got some a alarm found =
-    let last = Alarmed (s.taken + alarm.at) alarm.test in record {
-    acts = act (Some got) ∷ last ∷ [];
-    state = refl;
-    few = omega (arith, a.few);
-    blocks = refl;
-    left = (a.cause, refl);
-    ends = λ t has read tl. reads tail is got some a t has read (last ∷ []) (Err (HealthFailed (s.taken + alarm.at) alarm.test)) tl
-      (subst (λ (z : Option Alarm). MatchOption z
-        (Gathers row (found_in row.cutoffs (Some t)) (lacks - length got) (source_after row s (act (Some got))) (has ++ got) (read ++ got)
-          (last ∷ []) (Err (HealthFailed (s.taken + alarm.at) alarm.test)))
-        (λ a. ((last ∷ []) ≡ Alarmed (s.taken + a.at) a.test ∷ [])
-          × (◌≡◌ {A = Result (List ℕ) SourceRefusal} (Err (HealthFailed (s.taken + alarm.at) alarm.test)) (Err (HealthFailed (s.taken + a.at) a.test)))))
-        (sym found) (refl, refl));
-  }
+      let last = Alarmed (s.taken + alarm.at) alarm.test in record {
+        acts = act (Some got) ∷ last ∷ [];
+        state = refl;
+        few = omega (arith, a.few);
+        blocks = refl;
+        left = (a.cause, refl);
+        ends = λ t has read tl. reads tail is got some a t has read (last ∷ []) (Err (HealthFailed (s.taken + alarm.at) alarm.test)) tl
+            (subst (λ (z : Option Alarm). MatchOption z
+            (Gathers row (found_in row.cutoffs (Some t)) (lacks - length got) (source_after row s (act (Some got))) (has ++ got) (read ++ got)
+            (last ∷ []) (Err (HealthFailed (s.taken + alarm.at) alarm.test)))
+            (λ a. ((last ∷ []) ≡ Alarmed (s.taken + a.at) a.test ∷ [])
+            × (◌≡◌ {A = Result (List ℕ) SourceRefusal} (Err (HealthFailed (s.taken + alarm.at) alarm.test)) (Err (HealthFailed (s.taken + a.at) a.test)))))
+            (sym found) (refl, refl));
+      }
 
   pub stops_ended : Answers s (min 4096 lacks) (Some []) count → Stops row s (source_after row s (act (Some []))) lacks (WantOfEntropy lacks)
   stops_ended a = record {
@@ -111,7 +115,7 @@ module _ {S : Type 0} (told : S → Option (List ℕ)) (faults : S → ℕ) (v :
   failed count is keeps rose s st = (
     source_after v.row s (Read (min 4096 lacks) None count),
     read_stands told faults v.row v (record v { samples = now }) s (min 4096 lacks) None count st (omega arith) refl refl refl
-      (same_tail v.row.cutoffs.window v.tail) is (kept (told v.samples) (told now) keeps),
+        (same_tail v.row.cutoffs.window v.tail) is (kept (told v.samples) (told now) keeps),
     stops_failed v.row s lacks count lacking (record {
       few = omega arith;
       told = none s.told;
@@ -125,19 +129,19 @@ module _ {S : Type 0} (told : S → Option (List ℕ)) (faults : S → ℕ) (v :
   pub ended : (got : List ℕ) → got ≡ [] → Consumes (told v.samples) (told now) got → IsAtEnd (told now) → faults now ≡ faults v.samples
       → Goes told faults v (record v { samples = now }) (λ s after. Stops v.row s after lacks (WantOfEntropy lacks))
   ended got is takes none kept s st =
-    let takes_none = subst (λ z. Consumes (told v.samples) (told now) z) is takes in (
-      source_after v.row s (Read (min 4096 lacks) (Some []) (faults now)),
-      read_stands told faults v.row v (record v { samples = now }) s (min 4096 lacks) (Some []) (faults now) st (omega arith) refl refl refl
-        (same_tail v.row.cutoffs.window v.tail) refl takes_none,
-      stops_ended v.row s lacks (faults now) lacking (record {
-        few = omega arith;
-        told = are_next s.told (told v.samples) (told now) [] st.tells takes_none (λ e. none);
-        cause = kept ∙ sym (before st);
-      }),
-    )
+      let takes_none = subst (λ z. Consumes (told v.samples) (told now) z) is takes in (
+        source_after v.row s (Read (min 4096 lacks) (Some []) (faults now)),
+        read_stands told faults v.row v (record v { samples = now }) s (min 4096 lacks) (Some []) (faults now) st (omega arith) refl refl refl
+            (same_tail v.row.cutoffs.window v.tail) refl takes_none,
+        stops_ended v.row s lacks (faults now) lacking (record {
+          few = omega arith;
+          told = are_next s.told (told v.samples) (told now) [] st.tells takes_none (λ e. none);
+          cause = kept ∙ sym (before st);
+        }),
+      )
 
   module _ (got : List ℕ) (some : 0 < length got) (few : length got ≤ min 4096 lacks) (takes : Consumes (told v.samples) (told now) got)
-    (kept : faults now ≡ faults v.samples) (tail : Tail) (is : v.tail ≡ Some tail) where
+      (kept : faults now ≡ faults v.samples) (tail : Tail) (is : v.tail ≡ Some tail) where
     answers : (s : SourceState) → IsStateOf told faults v s → Answers s (min 4096 lacks) (Some got) (faults now)
     answers s st = record {
       few = few;
@@ -151,8 +155,8 @@ module _ {S : Type 0} (told : S → Option (List ℕ)) (faults : S → ℕ) (v :
     stands : (s : SourceState) → IsStateOf told faults v s
         → IsStateOf told faults (counted (Some (tail_after v.row.cutoffs.window tail got))) (source_after v.row s (Read (min 4096 lacks) (Some got) (faults now)))
     stands s st =
-      read_stands told faults v.row v (counted (Some (tail_after v.row.cutoffs.window tail got))) s (min 4096 lacks) (Some got) (faults now) st refl refl refl refl
-      (sym (ap (option_map (λ t. tail_after v.row.cutoffs.window t got)) is)) refl takes
+        read_stands told faults v.row v (counted (Some (tail_after v.row.cutoffs.window tail got))) s (min 4096 lacks) (Some got) (faults now) st refl refl refl refl
+        (sym (ap (option_map (λ t. tail_after v.row.cutoffs.window t got)) is)) refl takes
 
     pub went_on : alarm_from v.row.cutoffs tail got ≡ None
         → Goes told faults v (counted (Some (tail_after v.row.cutoffs.window tail got))) (λ s after. Leads v.row s after lacks (lacks - length got) got)
@@ -164,32 +168,32 @@ module _ {S : Type 0} (told : S → Option (List ℕ)) (faults : S → ℕ) (v :
 
     pub alarmed : (alarm : Alarm) → alarm_from v.row.cutoffs tail got ≡ Some alarm
         → Goes told faults v (record (counted None) { alarms = v.alarms + 1; mode = modes.Alarmed (v.taken + alarm.at) alarm.test })
-          (λ s after. Stops v.row s after lacks (HealthFailed (v.taken + alarm.at) alarm.test))
+        (λ s after. Stops v.row s after lacks (HealthFailed (v.taken + alarm.at) alarm.test))
     alarmed alarm found s st =
-      let first = source_after v.row s (Read (min 4096 lacks) (Some got) (faults now)) in
-      let read = stands s st in
-      let place : s.taken + alarm.at ≡ v.taken + alarm.at = ap (λ (z : SourceState). z.taken + alarm.at) st.own in (
-        source_after v.row first (Alarmed (s.taken + alarm.at) alarm.test),
-        record {
-          own =
-            state_is (source_after v.row first (Alarmed (s.taken + alarm.at) alarm.test)) (v.taken + length got) v.blocks (v.alarms + 1)
-            (modes.Alarmed (v.taken + alarm.at) alarm.test) None (faults now)
-            (ap (λ (z : SourceState). z.taken) read.own) (ap (λ (z : SourceState). z.blocks) read.own) (ap (λ (z : SourceState). z.alarms + 1) read.own)
-            (ap (λ k. modes.Alarmed k alarm.test) place) refl refl;
-          tells = read.tells;
-        },
-        subst (λ k. Stops v.row s (source_after v.row first (Alarmed (s.taken + alarm.at) alarm.test)) lacks (HealthFailed k alarm.test)) place
-          (stops_alarmed v.row s lacks (faults now) lacking tail (ap (λ (z : SourceState). z.tail) st.own ∙ is) got some (answers s st) alarm found),
-      )
+        let first = source_after v.row s (Read (min 4096 lacks) (Some got) (faults now)) in
+        let read = stands s st in
+        let place : s.taken + alarm.at ≡ v.taken + alarm.at = ap (λ (z : SourceState). z.taken + alarm.at) st.own in (
+          source_after v.row first (Alarmed (s.taken + alarm.at) alarm.test),
+          record {
+            own =
+                state_is (source_after v.row first (Alarmed (s.taken + alarm.at) alarm.test)) (v.taken + length got) v.blocks (v.alarms + 1)
+                (modes.Alarmed (v.taken + alarm.at) alarm.test) None (faults now)
+                (ap (λ (z : SourceState). z.taken) read.own) (ap (λ (z : SourceState). z.blocks) read.own) (ap (λ (z : SourceState). z.alarms + 1) read.own)
+                (ap (λ k. modes.Alarmed k alarm.test) place) refl refl;
+            tells = read.tells;
+          },
+          subst (λ k. Stops v.row s (source_after v.row first (Alarmed (s.taken + alarm.at) alarm.test)) lacks (HealthFailed k alarm.test)) place
+              (stops_alarmed v.row s lacks (faults now) lacking tail (ap (λ (z : SourceState). z.tail) st.own ∙ is) got some (answers s st) alarm found),
+        )
 
 -- The same as the code has it: what the tests keep stands in the view while they have not alarmed.
 module _ {S : Type 0} (told : S → Option (List ℕ)) (faults : S → ℕ) (row : SourceRow) (samples now : S) (tests after : Standing) (taken blocks alarms : ℕ)
-  (mode : SourceMode) (u : SourceView S) (lacks count : ℕ) (got : List ℕ) where
+    (mode : SourceMode) (u : SourceView S) (lacks count : ℕ) (got : List ℕ) where
   abbrev seen : SourceView S
   seen = record { row = row; taken = taken; blocks = blocks; alarms = alarms; mode = mode; tail = kept_tail mode tests.tail; samples = samples }
 
   module _ (is : seen ≡ u) (lacking : 0 < lacks) (tested : IsSome u.tail) (counted : count ≡ length got) (some : 0 < count) (few : count ≤ min 4096 lacks)
-    (takes : Consumes (told samples) (told now) got) (kept : faults now ≡ faults samples) (same : tests.cutoffs ≡ row.cutoffs) where
+      (takes : Consumes (told samples) (told now) got) (kept : faults now ≡ faults samples) (same : tests.cutoffs ≡ row.cutoffs) where
     has_tail : IsSome (kept_tail mode tests.tail)
     has_tail = subst (λ (z : SourceView S). IsSome z.tail) (sym is) tested
 
@@ -201,24 +205,24 @@ module _ {S : Type 0} (told : S → Option (List ℕ)) (faults : S → ℕ) (row
 
     pub quiet_read : None ≡ alarm_from tests.cutoffs tests.tail got → after.tail ≡ tail_after tests.cutoffs.window tests.tail got
         → Goes told faults u (record seen { taken = taken + count; tail = kept_tail mode after.tail; samples = now })
-          (λ s now. Leads u.row s now lacks (lacks - count) got)
+        (λ s now. Leads u.row s now lacks (lacks - count) got)
     quiet_read none numbers =
-      moved told faults seen u is (record seen { taken = taken + count; tail = kept_tail mode after.tail; samples = now })
-      (λ row s now. Leads row s now lacks (lacks - count) got)
-      (subst (λ (o : Option Tail). Goes told faults seen (record seen { taken = taken + count; tail = o; samples = now }) (λ s now. Leads row s now lacks (lacks - count) got))
+        moved told faults seen u is (record seen { taken = taken + count; tail = kept_tail mode after.tail; samples = now })
+        (λ row s now. Leads row s now lacks (lacks - count) got)
+        (subst (λ (o : Option Tail). Goes told faults seen (record seen { taken = taken + count; tail = o; samples = now }) (λ s now. Leads row s now lacks (lacks - count) got))
         (sym (kept_some mode tests.tail has_tail after.tail ∙ ap Some (numbers ∙ ap (λ (c : Limits). tail_after c.window tests.tail got) same)))
         (subst (λ k. Goes told faults seen (record seen { taken = taken + k; tail = Some (tail_after row.cutoffs.window tests.tail got); samples = now })
-            (λ s now. Leads row s now lacks (lacks - k) got)) (sym counted)
-          (went_on told faults seen now lacks lacking got some_got few_got takes kept tests.tail (kept_some mode tests.tail has_tail tests.tail)
-            (ap (λ (c : Limits). alarm_from c tests.tail got) (sym same) ∙ sym none))))
+        (λ s now. Leads row s now lacks (lacks - k) got)) (sym counted)
+        (went_on told faults seen now lacks lacking got some_got few_got takes kept tests.tail (kept_some mode tests.tail has_tail tests.tail)
+        (ap (λ (c : Limits). alarm_from c tests.tail got) (sym same) ∙ sym none))))
 
     pub alarm_read : (alarm : Alarm) → Some alarm ≡ alarm_from tests.cutoffs tests.tail got
         → Goes told faults u (record seen { taken = taken + count; alarms = alarms + 1; mode = modes.Alarmed (taken + alarm.at) alarm.test; tail = None; samples = now })
-          (λ s now. Stops u.row s now lacks (HealthFailed (taken + alarm.at) alarm.test))
+        (λ s now. Stops u.row s now lacks (HealthFailed (taken + alarm.at) alarm.test))
     alarm_read alarm found =
-      moved told faults seen u is (record seen { taken = taken + count; alarms = alarms + 1; mode = modes.Alarmed (taken + alarm.at) alarm.test; tail = None; samples = now })
-      (λ row s now. Stops row s now lacks (HealthFailed (taken + alarm.at) alarm.test))
-      (subst (λ k. Goes told faults seen (record seen { taken = taken + k; alarms = alarms + 1; mode = modes.Alarmed (taken + alarm.at) alarm.test; tail = None; samples = now })
-          (λ s now. Stops row s now lacks (HealthFailed (taken + alarm.at) alarm.test))) (sym counted)
+        moved told faults seen u is (record seen { taken = taken + count; alarms = alarms + 1; mode = modes.Alarmed (taken + alarm.at) alarm.test; tail = None; samples = now })
+        (λ row s now. Stops row s now lacks (HealthFailed (taken + alarm.at) alarm.test))
+        (subst (λ k. Goes told faults seen (record seen { taken = taken + k; alarms = alarms + 1; mode = modes.Alarmed (taken + alarm.at) alarm.test; tail = None; samples = now })
+        (λ s now. Stops row s now lacks (HealthFailed (taken + alarm.at) alarm.test))) (sym counted)
         (alarmed told faults seen now lacks lacking got some_got few_got takes kept tests.tail (kept_some mode tests.tail has_tail tests.tail)
-          alarm (ap (λ (c : Limits). alarm_from c tests.tail got) (sym same) ∙ sym found)))
+        alarm (ap (λ (c : Limits). alarm_from c tests.tail got) (sym same) ∙ sym found)))

@@ -19,8 +19,8 @@ pub state_is : (s : SourceState) (taken blocks alarms : ℕ) (mode : SourceMode)
     → s ≡ record { taken = taken; blocks = blocks; alarms = alarms; mode = mode; tail = tail; told = s.told; faults = faults }
 state_is s taken blocks alarms mode tail faults a b c d e f =
     let whole : ℕ → ℕ → ℕ → SourceMode → Option Tail → ℕ → SourceState =
-      λ taken blocks alarms mode tail faults.
-        record { taken = taken; blocks = blocks; alarms = alarms; mode = mode; tail = tail; told = s.told; faults = faults } in
+    λ taken blocks alarms mode tail faults.
+    record { taken = taken; blocks = blocks; alarms = alarms; mode = mode; tail = tail; told = s.told; faults = faults } in
     let same : whole s.taken s.blocks s.alarms s.mode s.tail s.faults ≡ whole taken blocks alarms mode tail faults = rw (a, b, c, d, e, f) refl in
     same
 
@@ -67,13 +67,13 @@ module _ {S : Type 0} (told : S → Option (List ℕ)) (faults : S → ℕ) wher
       → IsStateOf told faults w (source_after row s (Read asked got count))
   read_stands row v w s asked got count st a b c d e f g = record {
     own =
-      state_is (source_after row s (Read asked got count)) w.taken w.blocks w.alarms w.mode w.tail (faults w.samples)
-      (ap (λ (z : SourceState). z.taken + length (given got)) st.own ∙ sym a)
-      (ap (λ (z : SourceState). z.blocks) st.own ∙ sym b)
-      (ap (λ (z : SourceState). z.alarms) st.own ∙ sym c)
-      (ap (λ (z : SourceState). z.mode) st.own ∙ sym d)
-      (ap (λ (z : SourceState). option_map (λ t. tail_after row.cutoffs.window t (given got)) z.tail) st.own ∙ sym e)
-      f;
+        state_is (source_after row s (Read asked got count)) w.taken w.blocks w.alarms w.mode w.tail (faults w.samples)
+        (ap (λ (z : SourceState). z.taken + length (given got)) st.own ∙ sym a)
+        (ap (λ (z : SourceState). z.blocks) st.own ∙ sym b)
+        (ap (λ (z : SourceState). z.alarms) st.own ∙ sym c)
+        (ap (λ (z : SourceState). z.mode) st.own ∙ sym d)
+        (ap (λ (z : SourceState). option_map (λ t. tail_after row.cutoffs.window t (given got)) z.tail) st.own ∙ sym e)
+        f;
     tells = told_after s.told (told v.samples) (told w.samples) (given got) st.tells g;
   }
 

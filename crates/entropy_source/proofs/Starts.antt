@@ -35,9 +35,9 @@ module _ {S : Type 0} (told : S → Option (List ℕ)) (faults : S → ℕ) (v :
   begins : (s : SourceState) → IsStateOf told faults v s → IsStateOf told faults begun (source_after v.row s Began)
   begins s st = record {
     own =
-      state_is (source_after v.row s Began) v.taken v.blocks v.alarms modes.Idle (Some no_tail) (faults v.samples)
-      (ap (λ (z : SourceState). z.taken) st.own) (ap (λ (z : SourceState). z.blocks) st.own) (ap (λ (z : SourceState). z.alarms) st.own)
-      refl refl (ap (λ (z : SourceState). z.faults) st.own);
+        state_is (source_after v.row s Began) v.taken v.blocks v.alarms modes.Idle (Some no_tail) (faults v.samples)
+        (ap (λ (z : SourceState). z.taken) st.own) (ap (λ (z : SourceState). z.blocks) st.own) (ap (λ (z : SourceState). z.alarms) st.own)
+        refl refl (ap (λ (z : SourceState). z.faults) st.own);
     tells = st.tells;
   }
 
@@ -45,46 +45,58 @@ module _ {S : Type 0} (told : S → Option (List ℕ)) (faults : S → ℕ) (v :
       → Goes told faults v w (λ s now. HasStarted {T = T} v.row (Err why) s now × EndsStart {T = T} v.row (Err why) s now)
   start_stops {T = T} b w why is =
       subst (λ (z : SourceView S). Goes told faults z w (λ s now. Stops z.row s now z.row.startup why)
-        → Goes told faults v w (λ s now. HasStarted {T = T} v.row (Err why) s now × EndsStart {T = T} v.row (Err why) s now)) (sym is)
+      → Goes told faults v w (λ s now. HasStarted {T = T} v.row (Err why) s now × EndsStart {T = T} v.row (Err why) s now)) (sym is)
       (λ h s st.
-        let (now, stands, x) = h (source_after v.row s Began) (begins s st) in (
-          now,
-          stands,
-          (record {
+      let (now, stands, x) = h (source_after v.row s Began) (begins s st) in (
+        now,
+        stands,
+        (
+          record {
             acts = Began ∷ x.acts;
             start = (
-              x.acts, [], Err why, ap (λ z. Began ∷ z) (sym (append-nil x.acts)),
+              x.acts,
+              [],
+              Err why,
+              ap (λ z. Began ∷ z) (sym (append-nil x.acts)),
               subst (λ f. Gathers v.row f v.row.startup (source_after v.row s Began) [] [] x.acts (Err why)) (found_fresh v.row.cutoffs) (x.ends no_tail [] [] refl),
               (refl, refl),
             );
             state = x.state;
-          }, x.left),
-        ))
+          },
+          x.left,
+        ),
+      ))
 
   pub start_passed : {T : Type 0} (b m w : SourceView S) (done : T) → b ≡ begun → w ≡ record m { mode = modes.Running }
       → Goes told faults b m (λ s now. (got : List ℕ) × Leads b.row s now b.row.startup 0 got)
       → Goes told faults v w (λ s now. HasStarted {T = T} v.row (Ok done) s now × EndsStart {T = T} v.row (Ok done) s now)
   start_passed {T = T} b m w done is runs =
       subst (λ (z : SourceView S). Goes told faults z m (λ s now. (got : List ℕ) × Leads z.row s now z.row.startup 0 got)
-        → Goes told faults v w (λ s now. HasStarted {T = T} v.row (Ok done) s now × EndsStart {T = T} v.row (Ok done) s now)) (sym is)
+      → Goes told faults v w (λ s now. HasStarted {T = T} v.row (Ok done) s now × EndsStart {T = T} v.row (Ok done) s now)) (sym is)
       (λ h s st.
-        let (now, stands, (got, x)) = h (source_after v.row s Began) (begins s st) in (
-          source_after v.row now Started,
-          subst (λ (z : SourceView S). IsStateOf told faults z (source_after v.row now Started)) (sym runs) (record {
-            own =
+      let (now, stands, (got, x)) = h (source_after v.row s Began) (begins s st) in (
+        source_after v.row now Started,
+        subst (λ (z : SourceView S). IsStateOf told faults z (source_after v.row now Started)) (sym runs) (record {
+          own =
               state_is (source_after v.row now Started) m.taken m.blocks m.alarms modes.Running m.tail (faults m.samples)
               (ap (λ (z : SourceState). z.taken) stands.own) (ap (λ (z : SourceState). z.blocks) stands.own) (ap (λ (z : SourceState). z.alarms) stands.own)
               refl (ap (λ (z : SourceState). z.tail) stands.own) (ap (λ (z : SourceState). z.faults) stands.own);
-            tells = stands.tells;
-          }),
-          (record {
+          tells = stands.tells;
+        }),
+        (
+          record {
             acts = Began ∷ (x.acts ++ Started ∷ []);
             start = (
-              x.acts, Started ∷ [], Ok got, refl,
+              x.acts,
+              Started ∷ [],
+              Ok got,
+              refl,
               subst (λ f. Gathers v.row f v.row.startup (source_after v.row s Began) [] [] x.acts (Ok got)) (found_fresh v.row.cutoffs)
-                (gathered_all v.row (source_after v.row s Began) now v.row.startup got x no_tail [] [] refl),
+                  (gathered_all v.row (source_after v.row s Began) now v.row.startup got x no_tail [] [] refl),
               (refl, refl),
             );
             state = ap (λ (z : SourceState). source_after v.row z Started) x.state ∙ sym (after_append v.row (source_after v.row s Began) x.acts (Started ∷ []));
-          }, (refl, omega (arith, x.taken, x.count), x.others.faults)),
-        ))
+          },
+          (refl, omega (arith, x.taken, x.count), x.others.faults),
+        ),
+      ))

@@ -40,8 +40,8 @@ module _ (row : SourceRow) (found : List ℕ → List ℕ → Option Alarm) wher
   Gathers lacks s has read (Read asked (Some (x ∷ xs)) count ∷ acts) result =
       (0 < lacks) × (asked ≡ min 4096 lacks) × Answers s asked (Some (x ∷ xs)) count
       × MatchOption (found read (x ∷ xs))
-        (Gathers (lacks - length (x ∷ xs)) (source_after row s (Read asked (Some (x ∷ xs)) count)) (has ++ x ∷ xs) (read ++ x ∷ xs) acts result)
-        (λ a. (acts ≡ Alarmed (s.taken + a.at) a.test ∷ []) × (result ≡ Err (HealthFailed (s.taken + a.at) a.test)))
+      (Gathers (lacks - length (x ∷ xs)) (source_after row s (Read asked (Some (x ∷ xs)) count)) (has ++ x ∷ xs) (read ++ x ∷ xs) acts result)
+      (λ a. (acts ≡ Alarmed (s.taken + a.at) a.test ∷ []) × (result ≡ Err (HealthFailed (s.taken + a.at) a.test)))
   Gathers lacks s has read (_ ∷ acts) result = ⊥
 
   -- So many blocks in a row, behind those that gave the bytes `out`. Each takes the samples that were read for it and no
@@ -52,12 +52,12 @@ module _ (row : SourceRow) (found : List ℕ → List ℕ → Option Alarm) wher
       (reads : List SourceAct) × (rest : List SourceAct) × (end : Result (List ℕ) SourceRefusal)
       × (acts ≡ reads ++ rest) × Gathers (need_of_block row) s [] read reads end
       × MatchResult end
-        (λ block. let bytes = conditioned row.cond block in
-            let now = source_after_all row s reads in
-            let made = Block s.taken now.taken bytes in
-            (more : List SourceAct) × (rest ≡ made ∷ more)
-            × Draws n (source_after row now made) (read ++ block) (out ++ bytes) more result)
-        (λ why. (rest ≡ []) × (result ≡ Err why))
+      (λ block. let bytes = conditioned row.cond block in
+      let now = source_after_all row s reads in
+      let made = Block s.taken now.taken bytes in
+      (more : List SourceAct) × (rest ≡ made ∷ more)
+      × Draws n (source_after row now made) (read ++ block) (out ++ bytes) more result)
+      (λ why. (rest ≡ []) × (result ≡ Err why))
 
 -- what is asked for by its lengths, out of the bytes of all blocks: each takes whole blocks and gets their first bytes
 abbrev pub portions : SourceRow → List ℕ → List ℕ → List (List ℕ)

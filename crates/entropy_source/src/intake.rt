@@ -30,13 +30,13 @@ impl<S: Samples> Model for Intake<S> {
     ghost Value = { SourceView S };
 
     ghost view = { λ i. record {
-        row = i.row;
-        taken = i.taken;
-        blocks = i.blocks;
-        alarms = i.alarms;
-        mode = i.mode;
-        tail = kept_tail i.mode i.tests.tail;
-        samples = i.samples;
+      row = i.row;
+      taken = i.taken;
+      blocks = i.blocks;
+      alarms = i.alarms;
+      mode = i.mode;
+      tail = kept_tail i.mode i.tests.tail;
+      samples = i.samples;
     } };
 
     ghost invariant = { λ i. IsSound i.row × (i.tests.cutoffs ≡ i.row.cutoffs) × (i.taken ≤ 2 ^ 60) × (i.blocks ≤ i.taken) × (i.alarms ≤ i.taken) };

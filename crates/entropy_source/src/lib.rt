@@ -13,7 +13,6 @@ mod blocks;
 mod intake;
 mod laws;
 mod source;
-
 #[cfg(test)]
 mod tests;
 

@@ -14,10 +14,12 @@ const FIRST: [u8; 32] = [
     0x19, 0xac, 0x47, 0x68, 0xec, 0x22, 0x63, 0x28, 0x77, 0xf0, 0x47, 0xd6, 0xd0, 0x67, 0xce, 0x1d,
     0x32, 0xe1, 0xd3, 0x02, 0x3b, 0xfb, 0x61, 0xb7, 0x69, 0xc9, 0x0e, 0x87, 0x9a, 0xf5, 0xa1, 0x78,
 ];
+
 const SECOND: [u8; 32] = [
     0x18, 0x07, 0xbf, 0xa4, 0xef, 0x52, 0xca, 0x37, 0x82, 0x7a, 0x79, 0x5e, 0x00, 0xe1, 0xa5, 0x09,
     0xb3, 0x5e, 0xcd, 0x2d, 0xf9, 0x12, 0x0b, 0x7b, 0x1b, 0xe6, 0x61, 0x7a, 0x4e, 0xd3, 0x0b, 0x5f,
 ];
+
 const THIRD: [u8; 32] = [
     0x07, 0x70, 0x50, 0xa3, 0xc3, 0x86, 0xc3, 0x3f, 0x51, 0xc2, 0xa5, 0xfa, 0x65, 0x19, 0x3c, 0xd5,
     0x9f, 0x94, 0x32, 0x3d, 0xc3, 0xfd, 0xc8, 0xa5, 0xd6, 0xee, 0x90, 0x52, 0x5c, 0x28, 0x0f, 0x80,
@@ -85,12 +87,24 @@ fn blocks_follow_the_start(rt: HostRuntime) -> Result<(), Fail> {
     assert_eq!(rt; numbers(&source), (1024, 0, SourceMode::Running, 0));
     let mut out = [0u8; 48];
     assert_eq!(rt; source.need(48), 80);
-    assert_eq!(rt; source.draw(&mut out), Ok(Range { from: 1024, to: 1104 }));
+    assert_eq!(rt;
+        source.draw(&mut out),
+        Ok(Range {
+            from: 1024,
+            to: 1104
+        })
+    );
     assert_eq!(rt; &out[..32], FIRST.as_slice());
     assert_eq!(rt; &out[32..], &SECOND[..16]);
     assert_eq!(rt; numbers(&source), (1104, 2, SourceMode::Running, 0));
     let mut next = [0u8; 32];
-    assert_eq!(rt; source.draw(&mut next), Ok(Range { from: 1104, to: 1144 }));
+    assert_eq!(rt;
+        source.draw(&mut next),
+        Ok(Range {
+            from: 1104,
+            to: 1144
+        })
+    );
     assert_eq!(rt; next, THIRD);
     // 56 samples are left: one block, and 16 of the next.
     assert_eq!(rt;
@@ -103,19 +117,27 @@ fn blocks_follow_the_start(rt: HostRuntime) -> Result<(), Fail> {
 
 #[test]
 fn blocks_of_the_derivation_function(rt: HostRuntime) -> Result<(), Fail> {
-    let samples = Faulty::new(
-        counting(rt.alloc(), 1200, 0, 0)?,
-        7,
-        Vec::new(rt.alloc()),
-    );
+    let samples = Faulty::new(counting(rt.alloc(), 1200, 0, 0)?, 7, Vec::new(rt.alloc()));
     let mut source = EntropySource::open(samples, row(Cond::DfAes256)?);
     assert_eq!(rt; source.start(), Ok(()));
     let mut out = [0u8; 16];
-    assert_eq!(rt; source.draw(&mut out), Ok(Range { from: 1024, to: 1048 }));
+    assert_eq!(rt;
+        source.draw(&mut out),
+        Ok(Range {
+            from: 1024,
+            to: 1048
+        })
+    );
     assert_eq!(rt; out, OF_DF);
     let mut more = [0u8; 17];
     assert_eq!(rt; source.need(17), 48);
-    assert_eq!(rt; source.draw(&mut more), Ok(Range { from: 1048, to: 1096 }));
+    assert_eq!(rt;
+        source.draw(&mut more),
+        Ok(Range {
+            from: 1048,
+            to: 1096
+        })
+    );
     assert_eq!(rt; numbers(&source), (1096, 3, SourceMode::Running, 0));
     Ok(())
 }
@@ -131,7 +153,13 @@ fn small_pieces_give_the_same_blocks(rt: HostRuntime) -> Result<(), Fail> {
         let mut source = EntropySource::open(samples, row(Cond::HmacSha256)?);
         assert_eq!(rt; source.start(), Ok(()));
         let mut out = [0u8; 64];
-        assert_eq!(rt; source.draw(&mut out), Ok(Range { from: 1024, to: 1104 }));
+        assert_eq!(rt;
+            source.draw(&mut out),
+            Ok(Range {
+                from: 1024,
+                to: 1104
+            })
+        );
         assert_eq!(rt; &out[..32], FIRST.as_slice());
         assert_eq!(rt; &out[32..], SECOND.as_slice());
     }
@@ -182,7 +210,13 @@ fn an_alarm_in_a_draw(rt: HostRuntime) -> Result<(), Fail> {
     let mut source = EntropySource::open(samples, row(Cond::HmacSha256)?);
     assert_eq!(rt; source.start(), Ok(()));
     let mut out = [0u8; 96];
-    assert_eq!(rt; source.draw(&mut out), Ok(Range { from: 1024, to: 1144 }));
+    assert_eq!(rt;
+        source.draw(&mut out),
+        Ok(Range {
+            from: 1024,
+            to: 1144
+        })
+    );
     // The block of the places 1144 to 1183 has the run. All samples of that read are taken.
     assert_eq!(rt;
         source.draw(&mut out),
@@ -243,11 +277,7 @@ fn samples_end(rt: HostRuntime) -> Result<(), Fail> {
 #[test]
 fn a_read_fails(rt: HostRuntime) -> Result<(), Fail> {
     let alloc = rt.alloc();
-    let samples = Faulty::new(
-        counting(alloc, 65536, 0, 0)?,
-        4096,
-        vec![in alloc; 1u64]?,
-    );
+    let samples = Faulty::new(counting(alloc, 65536, 0, 0)?, 4096, vec![in alloc; 1u64]?);
     let mut source = EntropySource::open(samples, row(Cond::HmacSha256)?);
     assert_eq!(rt; source.start(), Ok(()));
     let mut out = [0u8; 32];
@@ -256,7 +286,13 @@ fn a_read_fails(rt: HostRuntime) -> Result<(), Fail> {
         Err(SourceRefusal::SourceFault { count: 1 })
     );
     assert_eq!(rt; numbers(&source), (1024, 0, SourceMode::Running, 1));
-    assert_eq!(rt; source.draw(&mut out), Ok(Range { from: 1024, to: 1064 }));
+    assert_eq!(rt;
+        source.draw(&mut out),
+        Ok(Range {
+            from: 1024,
+            to: 1064
+        })
+    );
     assert_eq!(rt; out, FIRST);
     Ok(())
 }
@@ -280,7 +316,13 @@ fn a_refused_block_enters_no_other(rt: HostRuntime) -> Result<(), Fail> {
         Err(SourceRefusal::SourceFault { count: 1 })
     );
     assert_eq!(rt; numbers(&source), (1064, 0, SourceMode::Running, 1));
-    assert_eq!(rt; source.draw(&mut out), Ok(Range { from: 1064, to: 1104 }));
+    assert_eq!(rt;
+        source.draw(&mut out),
+        Ok(Range {
+            from: 1064,
+            to: 1104
+        })
+    );
     assert_eq!(rt; out, SECOND);
     assert_eq!(rt;
         source.start(),

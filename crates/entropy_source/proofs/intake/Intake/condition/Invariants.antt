@@ -13,7 +13,7 @@ invariant-loop-lacks g l = record {
   taken : l.self.taken + l.lacks ≡ l.fn.self.taken + need_of_block l.fn.self.row;
   blocks : l.self.blocks ≡ l.fn.self.blocks;
   leads : Goes g.S.Samples.told g.S.Samples.faults l.fn.self l.self
-    (λ s now. (got : List ℕ) × Leads l.fn.self.row s now (need_of_block l.fn.self.row) l.lacks got × HoldsSamples l.block l.fn.self.row.cond (need_of_block l.fn.self.row) got);
+      (λ s now. (got : List ℕ) × Leads l.fn.self.row s now (need_of_block l.fn.self.row) l.lacks got × HoldsSamples l.block l.fn.self.row.cond (need_of_block l.fn.self.row) got);
 }
 
 abbrev pub decreases-loop-lacks : goal.decreases-loop-lacks

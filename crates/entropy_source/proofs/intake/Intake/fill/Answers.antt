@@ -43,7 +43,7 @@ returns-in-Err-clause-fills g c =
     let blocks = counted (λ (v : SourceView g.row.S.Denot). v.row.cond) _ _ (length c.args.out.now) c.block_len-len.result c.div_ceil-blocks.result c.self.view_is c.block_len-len.ensures.len c.div_ceil-blocks.ensures in
     subst (λ k. Goes g.S.Samples.told g.S.Samples.faults c.args.self.now c.block.new.self (λ s now. StopsBlocks c.args.self.now.row s now k c.in-Err.why)) (sym blocks)
     (filled_stops g.S.Samples.told g.S.Samples.faults c.args.self.now.row c.div_ceil-blocks.result c.block_len-len.result c.args.self.now c.loop-i.self c.block.new.self
-      c.loop-i.i c.loop-i.out c.in-Err.why c.loop-i.invariant.filled c.loop-i.invariant.row c.loop-i-test.true c.in-Err.ensures.makes)
+    c.loop-i.i c.loop-i.out c.in-Err.why c.loop-i.invariant.filled c.loop-i.invariant.row c.loop-i-test.true c.in-Err.ensures.makes)
 
 pub loop-i-preserved : goal.loop-i-preserved
 loop-i-preserved g c =
@@ -51,15 +51,15 @@ loop-i-preserved g c =
     let same = ap need_of_block c.loop-i.invariant.row in
     let one : (c.loop-i.i + 1) * need_of_block c.args.self.now.row ≡ c.loop-i.i * need_of_block c.args.self.now.row + need_of_block c.args.self.now.row = rw (add-one, suc-mul) refl in
     let len : block_len c.loop-i.self.row.cond ≡ c.block_len-len.result =
-      ap (λ (r : SourceRow). block_len r.cond) c.loop-i.invariant.row ∙ sym (c.block_len-len.ensures.len ∙ ap (λ (v : SourceView g.row.S.Denot). block_len v.row.cond) c.self.view_is) in
+    ap (λ (r : SourceRow). block_len r.cond) c.loop-i.invariant.row ∙ sym (c.block_len-len.ensures.len ∙ ap (λ (v : SourceView g.row.S.Denot). block_len v.row.cond) c.self.view_is) in
     let at = within (length c.args.out.now) c.block_len-len.result c.loop-i.i (omega (arith, c.block_len-len.ensures.range))
-      (subst (λ k. c.loop-i.i < k) c.div_ceil-blocks.ensures c.loop-i-test.true) in record {
-    row = e.row ∙ c.loop-i.invariant.row;
-    tested = e.tested;
-    taken = omega (arith, e.taken, same, one, c.loop-i.invariant.taken);
-    filled = filled_more g.S.Samples.told g.S.Samples.faults c.args.self.now.row c.div_ceil-blocks.result c.block_len-len.result c.args.self.now c.loop-i.self c.block.new.self
-      c.loop-i.i c.loop-i.out c.put_block.new.out c.in-Ok.block c.loop-i.invariant.filled c.loop-i.invariant.row c.loop-i-test.true e.makes (e.len ∙ len)
-      (omega (arith, at, c.loop-i.auto.out)) c.put_block.auto.out
-      (subst (λ b. take (c.loop-i.i * c.block_len-len.result + length b) c.put_block.new.out
-        ≡ take (c.loop-i.i * c.block_len-len.result) c.loop-i.out ++ take (length c.loop-i.out - c.loop-i.i * c.block_len-len.result) b) c.as_slice.ensures.bytes c.put_block.ensures);
-  }
+    (subst (λ k. c.loop-i.i < k) c.div_ceil-blocks.ensures c.loop-i-test.true) in record {
+      row = e.row ∙ c.loop-i.invariant.row;
+      tested = e.tested;
+      taken = omega (arith, e.taken, same, one, c.loop-i.invariant.taken);
+      filled = filled_more g.S.Samples.told g.S.Samples.faults c.args.self.now.row c.div_ceil-blocks.result c.block_len-len.result c.args.self.now c.loop-i.self c.block.new.self
+          c.loop-i.i c.loop-i.out c.put_block.new.out c.in-Ok.block c.loop-i.invariant.filled c.loop-i.invariant.row c.loop-i-test.true e.makes (e.len ∙ len)
+          (omega (arith, at, c.loop-i.auto.out)) c.put_block.auto.out
+          (subst (λ b. take (c.loop-i.i * c.block_len-len.result + length b) c.put_block.new.out
+          ≡ take (c.loop-i.i * c.block_len-len.result) c.loop-i.out ++ take (length c.loop-i.out - c.loop-i.i * c.block_len-len.result) b) c.as_slice.ensures.bytes c.put_block.ensures);
+    }

@@ -18,7 +18,7 @@ returns-then-count-eq0-clause-comes g c =
     let none : take c.in-Ok.count c.read.new.buf ≡ [] = rw (c.if-count-eq0.true) refl in
     moved g.S.Samples.told g.S.Samples.faults _ _ c.self.view_is _ (λ row s now. Stops row s now c.args.lacks (WantOfEntropy c.args.lacks))
     (ended g.S.Samples.told g.S.Samples.faults _ c.read.new.self c.args.lacks c.requires.lacking (take c.in-Ok.count c.read.new.buf) none e.samples.0
-      (e.samples.1 c.if-count-eq0.true (omega (arith, c.requires.asked, c.requires.lacking, c.read.auto.buf))) e.cause.kept)
+    (e.samples.1 c.if-count-eq0.true (omega (arith, c.requires.asked, c.requires.lacking, c.read.auto.buf))) e.cause.kept)
 
 pub returns-in-None-clause-comes : goal.returns-in-None-clause-comes
 returns-in-None-clause-comes g c =
