@@ -1,5 +1,5 @@
 // Sources over the counting samples, whose blocks and codes an independent implementation computes.
-ghost use Rattle.std.specs.Prelude.{◌≡◌, ◌-◌, ◌^◌, Err, IfErr};
+ghost use Rattle.std.specs.Prelude.{◌≡◌, ◌≤◌, ◌-◌, ◌^◌, Err, IfErr};
 ghost use Rattle.entropy_source.specs.Causes.{IfSpent};
 
 use crate::{Cause, EntropySource, Range, SourceMode, SourceRefusal, SourceRow};
@@ -44,15 +44,22 @@ fn counting(alloc: Global, total: usize, from: usize, to: usize) -> Result<Vec<u
     Ok(samples)
 }
 
-// Samples of 8 bits, cutoffs 4 and 257 of 512, a start-up of 1,024 samples.
-fn row(cond: Cond) -> Result<SourceRow, Fail> {
-    Ok(SourceRow {
-        num: 8,
-        den: 1,
-        cutoffs: Cutoffs::new(4, 512, 257)?,
-        startup: 1024,
-        cond,
-    })
+// A source with samples of 8 bits, and cutoffs 4 and 257 of 512.
+fn opened<S: Samples>(samples: S, startup: u32, cond: Cond) -> Result<EntropySource<S>, Fail>
+    requires low { 1 ≤ startup }
+    requires high { startup ≤ 65536 }
+{
+    let cutoffs = Cutoffs::new(4, 512, 257)?;
+    Ok(EntropySource::open(
+        samples,
+        SourceRow {
+            num: 8,
+            den: 1,
+            cutoffs,
+            startup,
+            cond,
+        },
+    ))
 }
 
 // The numbers of a source: taken, blocks, mode, faults.
@@ -81,7 +88,7 @@ fn in_error(cause: Cause) -> SourceRefusal {
 #[test]
 fn blocks_follow_the_start(rt: HostRuntime) -> Result<(), Fail> {
     let samples = Recorded::new(counting(rt.alloc(), 1200, 0, 0)?);
-    let mut source = EntropySource::open(samples, row(Cond::HmacSha256)?);
+    let mut source = opened(samples, 1024, Cond::HmacSha256)?;
     assert_eq!(rt; numbers(&source), (0, 0, SourceMode::Idle, 0));
     assert_eq!(rt; source.start(), Ok(()));
     assert_eq!(rt; numbers(&source), (1024, 0, SourceMode::Running, 0));
@@ -118,7 +125,7 @@ fn blocks_follow_the_start(rt: HostRuntime) -> Result<(), Fail> {
 #[test]
 fn blocks_of_the_derivation_function(rt: HostRuntime) -> Result<(), Fail> {
     let samples = Faulty::new(counting(rt.alloc(), 1200, 0, 0)?, 7, Vec::new(rt.alloc()));
-    let mut source = EntropySource::open(samples, row(Cond::DfAes256)?);
+    let mut source = opened(samples, 1024, Cond::DfAes256)?;
     assert_eq!(rt; source.start(), Ok(()));
     let mut out = [0u8; 16];
     assert_eq!(rt;
@@ -150,7 +157,7 @@ fn small_pieces_give_the_same_blocks(rt: HostRuntime) -> Result<(), Fail> {
             piece,
             Vec::new(rt.alloc()),
         );
-        let mut source = EntropySource::open(samples, row(Cond::HmacSha256)?);
+        let mut source = opened(samples, 1024, Cond::HmacSha256)?;
         assert_eq!(rt; source.start(), Ok(()));
         let mut out = [0u8; 64];
         assert_eq!(rt;
@@ -169,7 +176,7 @@ fn small_pieces_give_the_same_blocks(rt: HostRuntime) -> Result<(), Fail> {
 #[test]
 fn no_bytes_change_nothing(rt: HostRuntime) -> Result<(), Fail> {
     let samples = Recorded::new(counting(rt.alloc(), 40, 0, 0)?);
-    let mut source = EntropySource::open(samples, row(Cond::HmacSha256)?);
+    let mut source = opened(samples, 1024, Cond::HmacSha256)?;
     let mut none = [0u8; 0];
     assert_eq!(rt; source.draw(&mut none), Ok(Range { from: 0, to: 0 }));
     assert_eq!(rt; numbers(&source), (0, 0, SourceMode::Idle, 0));
@@ -183,7 +190,7 @@ fn no_bytes_change_nothing(rt: HostRuntime) -> Result<(), Fail> {
 #[test]
 fn an_alarm_in_the_start_up(rt: HostRuntime) -> Result<(), Fail> {
     let samples = Recorded::new(counting(rt.alloc(), 65536, 1020, 1024)?);
-    let mut source = EntropySource::open(samples, row(Cond::HmacSha256)?);
+    let mut source = opened(samples, 1024, Cond::HmacSha256)?;
     assert_eq!(rt;
         source.start(),
         Err(SourceRefusal::HealthFailed {
@@ -207,7 +214,7 @@ fn an_alarm_in_the_start_up(rt: HostRuntime) -> Result<(), Fail> {
 #[test]
 fn an_alarm_in_a_draw(rt: HostRuntime) -> Result<(), Fail> {
     let samples = Recorded::new(counting(rt.alloc(), 65536, 1150, 1154)?);
-    let mut source = EntropySource::open(samples, row(Cond::HmacSha256)?);
+    let mut source = opened(samples, 1024, Cond::HmacSha256)?;
     assert_eq!(rt; source.start(), Ok(()));
     let mut out = [0u8; 96];
     assert_eq!(rt;
@@ -235,13 +242,13 @@ fn an_alarm_in_a_draw(rt: HostRuntime) -> Result<(), Fail> {
 fn the_run_is_not_kept_across_a_start(rt: HostRuntime) -> Result<(), Fail> {
     // Three equal samples end the first start-up, and three begin the second.
     let samples = Recorded::new(counting(rt.alloc(), 65536, 1021, 1027)?);
-    let mut source = EntropySource::open(samples, row(Cond::HmacSha256)?);
+    let mut source = opened(samples, 1024, Cond::HmacSha256)?;
     assert_eq!(rt; source.start(), Ok(()));
     assert_eq!(rt; source.start(), Ok(()));
     assert_eq!(rt; numbers(&source), (2048, 0, SourceMode::Running, 0));
     // A draw goes on with the run of the start-up.
     let samples = Recorded::new(counting(rt.alloc(), 65536, 1021, 1027)?);
-    let mut source = EntropySource::open(samples, row(Cond::HmacSha256)?);
+    let mut source = opened(samples, 1024, Cond::HmacSha256)?;
     assert_eq!(rt; source.start(), Ok(()));
     let mut out = [0u8; 32];
     assert_eq!(rt;
@@ -258,7 +265,7 @@ fn the_run_is_not_kept_across_a_start(rt: HostRuntime) -> Result<(), Fail> {
 #[test]
 fn samples_end(rt: HostRuntime) -> Result<(), Fail> {
     let samples = Recorded::new(counting(rt.alloc(), 1103, 0, 0)?);
-    let mut source = EntropySource::open(samples, row(Cond::HmacSha256)?);
+    let mut source = opened(samples, 1024, Cond::HmacSha256)?;
     assert_eq!(rt; source.start(), Ok(()));
     let mut out = [0u8; 48];
     assert_eq!(rt;
@@ -278,7 +285,7 @@ fn samples_end(rt: HostRuntime) -> Result<(), Fail> {
 fn a_read_fails(rt: HostRuntime) -> Result<(), Fail> {
     let alloc = rt.alloc();
     let samples = Faulty::new(counting(alloc, 65536, 0, 0)?, 4096, vec![in alloc; 1u64]?);
-    let mut source = EntropySource::open(samples, row(Cond::HmacSha256)?);
+    let mut source = opened(samples, 1024, Cond::HmacSha256)?;
     assert_eq!(rt; source.start(), Ok(()));
     let mut out = [0u8; 32];
     assert_eq!(rt;
@@ -306,9 +313,7 @@ fn a_refused_block_enters_no_other(rt: HostRuntime) -> Result<(), Fail> {
         24,
         vec![in alloc; 45u64, 48]?,
     );
-    let mut row = row(Cond::HmacSha256)?;
-    row.startup = 1040;
-    let mut source = EntropySource::open(samples, row);
+    let mut source = opened(samples, 1040, Cond::HmacSha256)?;
     assert_eq!(rt; source.start(), Ok(()));
     let mut out = [0u8; 32];
     assert_eq!(rt;
