@@ -2,18 +2,10 @@
 #ifndef EVP_DRBG_H
 #define EVP_DRBG_H
 
-#include <stdio.h>
-#include <stdlib.h>
-
 #include <openssl/core_names.h>
-#include <openssl/evp.h>
 #include <openssl/params.h>
 
-static void fail(const char *what)
-{
-    fprintf(stderr, "peer: %s\n", what);
-    exit(1);
-}
+#include "print_digest.h"
 
 /* A name for the words, the DRBG's name in OpenSSL, and the parameter that chooses its hash function or cipher. */
 struct mechanism {

@@ -26,31 +26,20 @@ static const struct mechanism *mechanism_named(const char *name)
     return NULL;
 }
 
-static void count_from(unsigned char *bytes, size_t len, unsigned char first)
-{
-    for (size_t i = 0; i < len; i++)
-        bytes[i] = first + i;
-}
-
 static void print_hash_of_outputs(const struct mechanism *m, size_t bytes, long times)
 {
-    unsigned char entropy[32], nonce[16], hash[32];
+    unsigned char entropy[32], nonce[16];
     static unsigned char out[65536];
-    EVP_MD_CTX *md = EVP_MD_CTX_new();
+    EVP_MD_CTX *md = new_digest();
     count_from(entropy, sizeof entropy, 0);
     count_from(nonce, sizeof nonce, sizeof entropy);
     EVP_RAND_CTX *drbg = instantiate(m, entropy, sizeof entropy, nonce, sizeof nonce);
-    if (md == NULL || !EVP_DigestInit_ex(md, EVP_sha256(), NULL))
-        fail("SHA-256");
     for (long i = 0; i < times; i++) {
         if (!EVP_RAND_generate(drbg, out, bytes, 0, 0, NULL, 0))
             fail("generate");
         EVP_DigestUpdate(md, out, bytes);
     }
-    EVP_DigestFinal_ex(md, hash, NULL);
-    for (size_t i = 0; i < sizeof hash; i++)
-        printf("%02x", hash[i]);
-    printf("\n");
+    print_digest(md);
 }
 
 int main(int argc, char **argv)

@@ -1,24 +1,19 @@
 -- What the tests keep where they stand for a list, and how they go on.
 use Rattle.std.proofs.Common.{◌≡◌, ℕ, ◌+◌, ◌<◌, ◌≤◌, Bool, true, false, List, [], ◌∷◌, ◌++◌, length, refl, sym, ap, ◌∙◌, subst, arith}
-use Rattle.std.specs.Prelude.{Option, Some, None, IfNone, is_some, not, nat_le, if◌then◌else◌}
+use Rattle.std.specs.Prelude.{Option, Some, None, IfNone, OnSome, is_some, not, nat_le, if◌then◌else◌}
 use Rattle.std.proofs.lemmas.Nat.{mod_below}
 use Rattle.std.proofs.lemmas.Bool.{leb-false}
 use Rattle.health_tests.specs.declared.windows.Test.{Test}
 use Rattle.health_tests.specs.declared.windows.Test.TheVariants.{Repetition, Proportion}
+use Rattle.health_tests.specs.declared.windows.Alarm.{Alarm}
 use Rattle.health_tests.specs.declared.numbers.Tail.{Tail}
-use Rattle.health_tests.specs.Cutoffs.{Limits, AreSound}
-use Rattle.health_tests.specs.Windows.{first_alarm, further, or_later, IsFirst}
-use Rattle.health_tests.specs.Numbers.{tail_of, no_tail, tail_step, alarm_by, alarm_from}
+use Rattle.health_tests.specs.Cutoffs.{Limits, limits, AreSound}
+use Rattle.health_tests.specs.Windows.{first_alarm, alarm_in, further, or_later, IsFirst}
+use Rattle.health_tests.specs.Numbers.{IsBelow, tail_of, no_tail, tail_step, tail_after, alarm_by, alarm_from}
 use Rattle.health_tests.specs.Stands.{Standing, StandsFor, StandsForSome, placed}
-use Rattle.health_tests.proofs.Counting.{tail_begins, tail_more}
+use Rattle.health_tests.proofs.Counting.{tail_begins, tail_more, tail_grows}
 use Rattle.health_tests.proofs.Alarms.{alarm_last, alarm_tells}
 use Rattle.health_tests.proofs.Longer.{first_is_least, first_later}
-
--- numbers of a list without an alarm are below the cutoffs
-pub record IsBelow (c : Limits) (t : Tail) : Type 0 where
-  pub run : t.run < c.rct
-  pub equal : t.equal < c.apt
-  pub place : t.place < c.window
 
 place_below : (w : ℕ) (x : List ℕ) → 0 < w → (tail_of w x).place < w
 unfolding tail_of
@@ -75,34 +70,80 @@ goes_on t x s h none = record {
 pub stands_fresh : (c : Limits) → StandsFor (record { cutoffs = c; tail = no_tail }) []
 stands_fresh c = record { quiet = refl; counted = sym (tail_begins c.window) }
 
+pub same_limits : (c : Limits) (r w a : ℕ) → r ≡ c.rct → w ≡ c.window → a ≡ c.apt → limits r w a ≡ c
+same_limits c r w a p q s = rw (p, q, s) refl
+
+-- a call of the tests that stood before with the numbers t: it answered the sample s by the limits l, which are the cutoffs c, and
+-- left the numbers n
+module _ (old : Standing) (c l : Limits) (t n : Tail) (s : ℕ) (answer : Option Test)
+    (is_old : record { cutoffs = c; tail = t } ≡ old) (is_limits : l ≡ c) (tells : answer ≡ alarm_by l (tail_step l.window t s))
+    (counts : IfNone answer (n ≡ tail_step l.window t s)) where
+  limits_are : l ≡ old.cutoffs
+  limits_are = is_limits ∙ ap (λ (o : Standing). o.cutoffs) is_old
+
+  told : answer ≡ alarm_by old.cutoffs (tail_step old.cutoffs.window old.tail s)
+  told = tells ∙ (ap (λ m. alarm_by m (tail_step m.window t s)) limits_are ∙ ap (λ (o : Standing). alarm_by old.cutoffs (tail_step old.cutoffs.window o.tail s)) is_old)
+
+  pub answered : (x : List ℕ) → StandsFor old x → first_alarm old.cutoffs (x ++ s ∷ []) ≡ placed (length x) answer
+  answered x h = answers old x s h ∙ ap (placed (length x)) (sym told)
+
+  pub stood : answer ≡ None → n ≡ tail_step l.window t s → (x : List ℕ) → StandsFor old x → StandsFor (record { cutoffs = c; tail = n }) (x ++ s ∷ [])
+  stood none numbers x h =
+      let whole : Limits → Tail → Standing = λ m k. record { cutoffs = m; tail = k } in
+      let cutoffs : old.cutoffs ≡ c = sym (ap (λ (o : Standing). o.cutoffs) is_old) in
+      let next : tail_step old.cutoffs.window old.tail s ≡ n = sym (numbers ∙ (ap (λ (m : Limits). tail_step m.window t s) limits_are ∙ ap (λ (o : Standing). tail_step old.cutoffs.window o.tail s) is_old)) in
+      let view : whole old.cutoffs (tail_step old.cutoffs.window old.tail s) ≡ whole c n = ap (λ m. whole m (tail_step old.cutoffs.window old.tail s)) cutoffs ∙ ap (whole c) next in
+      subst (λ v. StandsFor v (x ++ s ∷ [])) view (goes_on old x s h (sym told ∙ none))
+
+  pub stood_if : IfNone answer ((x : List ℕ) → StandsFor old x → StandsFor (record { cutoffs = c; tail = n }) (x ++ s ∷ []))
+  stood_if = by answer refl counts where
+    by : (o : Option Test) → answer ≡ o → IfNone o (n ≡ tail_step l.window t s)
+        → IfNone o ((x : List ℕ) → StandsFor old x → StandsFor (record { cutoffs = c; tail = n }) (x ++ s ∷ []))
+    by None e m = stood e m
+    by (Some test) e m = tt
+
+  pub still_stands : OnSome answer (n ≡ t) → StandsForSome (record { cutoffs = c; tail = t }) → StandsForSome (record { cutoffs = c; tail = n })
+  still_stands kept (x, stands) = by answer refl counts kept where
+    by : (o : Option Test) → answer ≡ o → IfNone o (n ≡ tail_step l.window t s) → OnSome o (n ≡ t) → StandsForSome (record { cutoffs = c; tail = n })
+    by None e m k = (x ++ s ∷ [], stood e m x (subst (λ v. StandsFor v x) is_old stands))
+    by (Some test) e m k = (x, subst (λ m. StandsFor (record { cutoffs = c; tail = m }) x) (sym k) stands)
+
 none_from : {A : Type 0} (a : Option A) (b : Bool) → is_some a ≡ not b → b ≡ true → a ≡ None
 none_from None b h e = refl
 none_from (Some x) b h e = let no : not b ≡ false = ap not e in cc
 
--- the call of the tests that kept the numbers t, counted the numbers n with the sample, and answered by them
-module _ (old : Standing) (c : Limits) (t n : Tail) (w s : ℕ) (answer : Option Test)
-    (is_old : record { cutoffs = c; tail = t } ≡ old) (window : w ≡ c.window) (counts : n ≡ tail_step w t s) (tells : answer ≡ alarm_by c n) where
-  next : n ≡ tail_step old.cutoffs.window old.tail s
-  next = counts ∙ (ap (λ v. tail_step v t s) window ∙ ap (λ (o : Standing). tail_step o.cutoffs.window o.tail s) is_old)
+-- the same for the samples y
+module _ (old : Standing) (c l : Limits) (t n : Tail) (y : List ℕ) (answer : Option Alarm)
+    (is_old : record { cutoffs = c; tail = t } ≡ old) (is_limits : l ≡ c) (tells : answer ≡ alarm_from l t y)
+    (counts : IfNone answer (n ≡ tail_after l.window t y)) where
+  pub answered_all : (x : List ℕ) → StandsFor old x → alarm_in old.cutoffs x y ≡ answer
+  answered_all x h =
+      sym (alarm_tells old.cutoffs x y)
+      ∙ (ap (λ m. alarm_from old.cutoffs m y) (sym h.counted)
+      ∙ (ap (λ (o : Standing). alarm_from o.cutoffs o.tail y) (sym is_old)
+      ∙ (ap (λ m. alarm_from m t y) (sym is_limits) ∙ sym tells)))
 
-  same : alarm_by old.cutoffs (tail_step old.cutoffs.window old.tail s) ≡ answer
-  same = sym (tells ∙ (ap (λ (o : Standing). alarm_by o.cutoffs n) is_old ∙ ap (alarm_by old.cutoffs) next))
+  pub stood_all : answer ≡ None → n ≡ tail_after l.window t y → (x : List ℕ) → StandsFor old x → StandsFor (record { cutoffs = c; tail = n }) (x ++ y)
+  stood_all none numbers x h =
+      let stands = subst (λ v. StandsFor v x) (sym is_old) h in
+      let cutoffs : c ≡ old.cutoffs = ap (λ (o : Standing). o.cutoffs) is_old in
+      record {
+        quiet = first_later c x y stands.quiet ∙ ap (further (length x)) (ap (λ m. alarm_in m x y) cutoffs ∙ (answered_all x h ∙ none));
+        counted =
+            numbers ∙ (ap (λ (m : Limits). tail_after m.window t y) is_limits
+            ∙ (ap (λ m. tail_after c.window m y) stands.counted ∙ tail_grows c.window x y));
+      }
 
-  pub answered : (x : List ℕ) → StandsFor old x → first_alarm old.cutoffs (x ++ s ∷ []) ≡ placed (length x) answer
-  answered x h = answers old x s h ∙ ap (placed (length x)) same
+  pub stood_all_if : IfNone answer ((x : List ℕ) → StandsFor old x → StandsFor (record { cutoffs = c; tail = n }) (x ++ y))
+  stood_all_if = by answer refl counts where
+    by : (o : Option Alarm) → answer ≡ o → IfNone o (n ≡ tail_after l.window t y)
+        → IfNone o ((x : List ℕ) → StandsFor old x → StandsFor (record { cutoffs = c; tail = n }) (x ++ y))
+    by None e m = stood_all e m
+    by (Some alarm) e m = tt
 
-  pub stood : answer ≡ None → (x : List ℕ) → StandsFor old x → StandsFor (record { cutoffs = c; tail = n }) (x ++ s ∷ [])
-  stood none x h =
-      let whole : Limits → Tail → Standing = λ l m. record { cutoffs = l; tail = m } in
-      let limits : old.cutoffs ≡ c = sym (ap (λ (o : Standing). o.cutoffs) is_old) in
-      let view : whole old.cutoffs (tail_step old.cutoffs.window old.tail s) ≡ whole c n = ap (λ l. whole l (tail_step old.cutoffs.window old.tail s)) limits ∙ ap (whole c) (sym next) in
-      subst (λ v. StandsFor v (x ++ s ∷ [])) view (goes_on old x s h (same ∙ none))
-
-  pub stood_if : IfNone answer ((x : List ℕ) → StandsFor old x → StandsFor (record { cutoffs = c; tail = n }) (x ++ s ∷ []))
-  stood_if = by answer refl where
-    by : (o : Option Test) → answer ≡ o → IfNone o ((x : List ℕ) → StandsFor old x → StandsFor (record { cutoffs = c; tail = n }) (x ++ s ∷ []))
-    by None e = stood e
-    by (Some test) e = tt
-
-  pub still_stands : (b : Bool) → is_some answer ≡ not b → b ≡ true → StandsForSome (record { cutoffs = c; tail = t }) → StandsForSome (record { cutoffs = c; tail = n })
-  still_stands b h e (x, stands) = (x ++ s ∷ [], stood (none_from answer b h e) x (subst (λ v. StandsFor v x) is_old stands))
+  pub still_stands_all : (b : Bool) → is_some answer ≡ not b → b ≡ true → StandsForSome (record { cutoffs = c; tail = t }) → StandsForSome (record { cutoffs = c; tail = n })
+  still_stands_all b h e (x, stands) = (x ++ y, by answer (none_from answer b h e) stood_all_if x (subst (λ v. StandsFor v x) is_old stands)) where
+    by : (o : Option Alarm) → o ≡ None → IfNone o ((z : List ℕ) → StandsFor old z → StandsFor (record { cutoffs = c; tail = n }) (z ++ y))
+        → (z : List ℕ) → StandsFor old z → StandsFor (record { cutoffs = c; tail = n }) (z ++ y)
+    by None e f = f
+    by (Some alarm) e f = cc

@@ -1,6 +1,6 @@
 -- The five numbers that go on from a list of samples: counted on the list, with samples added, and the alarm that they tell.
 -- SP 800-90B 4.4.1 and 4.4.2; that five numbers are enough is this project's own.
-use Rattle.std.specs.Prelude.{ℕ, ◌+◌, ◌-◌, ◌%◌, List, [], ◌∷◌, length, drop, count_by, slice_index, ◌==◌, if◌then◌else◌, nat_le, Option, Some, None}
+use Rattle.std.specs.Prelude.{ℕ, ◌<◌, ◌+◌, ◌-◌, ◌%◌, List, [], ◌∷◌, length, drop, count_by, slice_index, ◌==◌, if◌then◌else◌, nat_le, Option, Some, None}
 use Rattle.std.specs.List.{suffix_len}
 use Rattle.health_tests.specs.declared.windows.Test.{Test}
 use Rattle.health_tests.specs.declared.windows.Test.TheVariants.{Repetition, Proportion}
@@ -53,3 +53,9 @@ alarm_by c t =
 abbrev pub alarm_from : Limits → Tail → List ℕ → Option Alarm
 alarm_from c t [] = None
 alarm_from c t (s ∷ more) = or_later (alarm_by c (tail_step c.window t s)) (alarm_from c (tail_step c.window t s) more)
+
+-- numbers below every cutoff, as those of a list without an alarm are
+pub record IsBelow (c : Limits) (t : Tail) : Type 0 where
+  pub run : t.run < c.rct
+  pub equal : t.equal < c.apt
+  pub place : t.place < c.window

@@ -1,8 +1,8 @@
 // The tests that go from sample to sample.
-ghost use Rattle.std.specs.Prelude.{◌≡◌, ℕ, List, [], ◌∷◌, ◌++◌, length, OnSome, IfNone};
+ghost use Rattle.std.specs.Prelude.{◌≡◌, ◌<◌, ℕ, List, [], ◌∷◌, ◌++◌, length, OnSome, IfSome, IfNone};
 
 use crate::numbers::Tail;
-use crate::{Cutoffs, Test};
+use crate::{Alarm, Cutoffs, Test};
 use std::marker::Model;
 
 /// Both continuous tests over the samples since `fresh` (SP 800-90B 4.4). They keep the cutoffs and five numbers, and stand
@@ -24,8 +24,8 @@ impl Model for Tests {
 }
 
 impl Tests {
-    ghost use Rattle.health_tests.specs.Windows.{first_alarm};
-    ghost use Rattle.health_tests.specs.Numbers.{no_tail, tail_step, alarm_by};
+    ghost use Rattle.health_tests.specs.Windows.{first_alarm, alarm_in};
+    ghost use Rattle.health_tests.specs.Numbers.{no_tail, tail_step, tail_after, alarm_by, alarm_from};
     ghost use Rattle.health_tests.specs.Stands.{StandsFor, StandsForSome, placed};
 
     /// Tests that have seen no sample.
@@ -58,8 +58,32 @@ impl Tests {
 
         ensures stands { StandsForSome self.new }
     {
-        let next = self.tail.with(self.cutoffs.window(), sample);
-        let answer = next.alarm(&self.cutoffs);
+        let cutoffs = self.cutoffs;
+        self.tail
+            .add(cutoffs.rct(), cutoffs.window(), cutoffs.apt(), sample)
+    }
+
+    /// The first alarm among samples that follow, if there is one, with its place among them, counted from 0: what `step` says
+    /// of each of them in turn, up to the first that alarms. After an alarm the tests stand as before the call, and are to be
+    /// begun anew.
+    pub fn step_all(&mut self, samples: &[u8]) -> Option<Alarm>
+        ensures cutoffs { self.new.cutoffs ≡ self.old.cutoffs }
+
+        // What is answered is the first alarm, behind any list for which the tests stand, among the samples that follow it.
+        ensures alarm { (x : List ℕ) → StandsFor self.old x → alarm_in self.old.cutoffs x samples.now ≡ result }
+        ensures grown { IfNone result ((x : List ℕ) → StandsFor self.old x → StandsFor self.new (x ++ samples.now)) }
+        ensures alarmed { OnSome result (self.new ≡ self.old) }
+
+        // The same by the numbers, for callers that keep no list.
+        ensures answer { result ≡ alarm_from self.old.cutoffs self.old.tail samples.now }
+        ensures place { IfSome result (λ alarm. alarm.at < length samples.now) }
+        ensures numbers { IfNone result (self.new.tail ≡ tail_after self.old.cutoffs.window self.old.tail samples.now) }
+
+        ensures stands { StandsForSome self.new }
+    {
+        let cutoffs = self.cutoffs;
+        let mut next = self.tail;
+        let answer = next.go_on(cutoffs.rct(), cutoffs.window(), cutoffs.apt(), samples);
         if answer.is_none() {
             self.tail = next;
         }

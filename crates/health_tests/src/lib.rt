@@ -3,8 +3,8 @@
 //!
 //! - `cutoffs`: the numbers at which the tests alarm, and how one of them is computed;
 //! - `windows`: the first alarm of a whole list of samples, found by looking at every window of it;
-//! - `continuous`: the tests that go from sample to sample;
-//! - `numbers`: these five numbers, which are all that the tests need of the samples before;
+//! - `continuous`: the tests that go from sample to sample, by one (`step`) or by a slice (`step_all`);
+//! - `numbers`: the five numbers that they keep, which are all that they need of the samples before;
 //! - `laws`: that five numbers are enough.
 #![tactic(auto)]
 

@@ -1,7 +1,7 @@
 // The five numbers that the tests keep of a list of samples.
-ghost use Rattle.std.specs.Prelude.{◌≡◌, ◌<◌, ◌-◌, ◌^◌};
+ghost use Rattle.std.specs.Prelude.{◌≡◌, ◌<◌, length, IfSome, IfNone, OnSome};
 
-use crate::{Cutoffs, Test};
+use crate::{Alarm, Test};
 
 /// What the tests need of the samples before: the length of the run of equal samples at the end, the place in its window of
 /// the sample to come, of the last sample's window how many samples equal its first, the last sample, and that first one.
@@ -15,7 +15,8 @@ pub struct Tail {
 }
 
 impl Tail {
-    ghost use Rattle.health_tests.specs.Numbers.{tail_step, alarm_by};
+    ghost use Rattle.health_tests.specs.Cutoffs.{AreSound, limits};
+    ghost use Rattle.health_tests.specs.Numbers.{IsBelow, tail_step, tail_after, alarm_by, alarm_from};
 
     /// The numbers of no sample.
     pub const EMPTY: Tail = Tail {
@@ -26,51 +27,55 @@ impl Tail {
         first: 0,
     };
 
-    /// The numbers with one sample added.
+    /// The numbers with samples added one by one, up to the first alarm among them.
     #[inline]
-    pub fn with(self, window: u16, sample: u8) -> Tail
-        requires run { self.run < 2 ^ 32 - 1 }
-        requires place { self.place < window }
-        requires equal { self.equal < 2 ^ 16 - 1 }
-        ensures { result ≡ tail_step window self sample }
+    pub fn go_on(&mut self, rct: u32, window: u16, apt: u16, samples: &[u8]) -> Option<Alarm>
+        requires sound { AreSound (limits rct window apt) }
+        requires below { IsBelow (limits rct window apt) self.old }
+        ensures answer { result ≡ alarm_from (limits rct window apt) self.old samples.now }
+        ensures place { IfSome result (λ alarm. alarm.at < length samples.now) }
+        ensures numbers { IfNone result (self.new ≡ tail_after window self.old samples.now) }
     {
-        let run = if sample == self.last { self.run + 1 } else { 1 };
-        let next = self.place + 1;
-        let place = if next == u32::from(window) { 0 } else { next };
-        if self.place == 0 {
-            return Tail {
-                run,
-                place,
-                equal: 1,
-                last: sample,
-                first: sample,
-            };
+        for at in 0..samples.len() {
+            if let Some(test) = self.add(rct, window, apt, samples[at]) {
+                return Some(Alarm { at, test });
+            }
         }
-        let equal = if sample == self.first {
-            self.equal + 1
-        } else {
-            self.equal
-        };
-        Tail {
-            run,
-            place,
-            equal,
-            last: sample,
-            first: self.first,
-        }
+        None
     }
 
-    /// The alarm at the last sample; repetition goes before proportion.
+    /// One sample more, unless it alarms.
     #[inline]
-    pub fn alarm(self, cutoffs: &Cutoffs) -> Option<Test>
-        ensures { result ≡ alarm_by cutoffs.now self }
+    pub fn add(&mut self, rct: u32, window: u16, apt: u16, sample: u8) -> Option<Test>
+        requires sound { AreSound (limits rct window apt) }
+        requires below { IsBelow (limits rct window apt) self.old }
+        ensures answer { result ≡ alarm_by (limits rct window apt) (tail_step window self.old sample) }
+        ensures numbers { IfNone result (self.new ≡ tail_step window self.old sample) }
+        ensures alarmed { OnSome result (self.new ≡ self.old) }
     {
-        if self.run >= cutoffs.rct() {
-            Some(Test::Repetition)
-        } else if self.equal >= cutoffs.apt() {
-            Some(Test::Proportion)
-        } else {
-            None
+        let mut run = 1;
+        if sample == self.last {
+            run += self.run;
+            if run >= rct {
+                return Some(Test::Repetition);
+            }
         }
+        if self.place == 0 {
+            self.first = sample;
+            self.equal = 1;
+        } else if sample == self.first {
+            let equal = self.equal + 1;
+            if equal >= apt {
+                return Some(Test::Proportion);
+            }
+            self.equal = equal;
+        }
+        self.run = run;
+        self.last = sample;
+        self.place += 1;
+        if self.place == u32::from(window) {
+            self.place = 0;
+        }
+        None
     }
 }

@@ -1,4 +1,6 @@
-// Worked examples of the cutoffs and of both tests, and the two ways to the first alarm side by side.
+// Worked examples of the cutoffs and of both tests, and the three ways to the first alarm side by side.
+ghost use Rattle.std.specs.Prelude.{◌≤◌, length};
+
 use crate::{Alarm, BadCutoff, Cut, Cutoffs, Test, Tests, first_alarm, rct_cutoff};
 use std::test::Fail;
 
@@ -13,14 +15,37 @@ fn stepped(cutoffs: Cutoffs, samples: &[u8]) -> Option<Alarm> {
     None
 }
 
-// What both ways say.
-fn both(cutoffs: Cutoffs, samples: &[u8]) -> [Option<Alarm>; 2] {
-    [stepped(cutoffs, samples), first_alarm(cutoffs, samples)]
+// The first alarm, by the samples before a place and those from there on.
+fn in_two(cutoffs: Cutoffs, samples: &[u8], cut: usize) -> Option<Alarm>
+    requires { cut ≤ length samples.now }
+{
+    let mut tests = Tests::fresh(cutoffs);
+    if let Some(alarm) = tests.step_all(&samples[..cut]) {
+        return Some(alarm);
+    }
+    let alarm = tests.step_all(&samples[cut..])?;
+    Some(Alarm {
+        at: cut + alarm.at,
+        test: alarm.test,
+    })
 }
 
-// The same answer twice.
-fn twice(at: usize, test: Test) -> [Option<Alarm>; 2] {
-    [Some(Alarm { at, test }), Some(Alarm { at, test })]
+// What each way says.
+fn ways(cutoffs: Cutoffs, samples: &[u8]) -> [Option<Alarm>; 3] {
+    [
+        stepped(cutoffs, samples),
+        in_two(cutoffs, samples, samples.len() / 2),
+        first_alarm(cutoffs, samples),
+    ]
+}
+
+// The same answer of each.
+fn all(at: usize, test: Test) -> [Option<Alarm>; 3] {
+    [
+        Some(Alarm { at, test }),
+        Some(Alarm { at, test }),
+        Some(Alarm { at, test }),
+    ]
 }
 
 #[test]
@@ -61,14 +86,14 @@ fn cutoffs_are_refused_in_order(rt: HostRuntime) -> Result<(), Fail> {
 #[test]
 fn runs_alarm_at_the_cutoff(rt: HostRuntime) -> Result<(), Fail> {
     let four = Cutoffs::new(4, 512, 257)?;
-    assert_eq!(rt; both(four, &[7, 7, 7, 7]), twice(3, Test::Repetition));
-    assert_eq!(rt; both(four, &[7, 7, 7, 8, 7]), [None, None]);
-    assert_eq!(rt; both(four, &[0, 0, 0]), [None, None]);
+    assert_eq!(rt; ways(four, &[7, 7, 7, 7]), all(3, Test::Repetition));
+    assert_eq!(rt; ways(four, &[7, 7, 7, 8, 7]), [None, None, None]);
+    assert_eq!(rt; ways(four, &[0, 0, 0]), [None, None, None]);
     let two = Cutoffs::new(2, 512, 257)?;
-    assert_eq!(rt; both(two, &[1, 2, 2]), twice(2, Test::Repetition));
+    assert_eq!(rt; ways(two, &[1, 2, 2]), all(2, Test::Repetition));
     // Where both tests alarm at one sample, repetition is the answer.
     let each = Cutoffs::new(4, 512, 4)?;
-    assert_eq!(rt; both(each, &[7, 7, 7, 7]), twice(3, Test::Repetition));
+    assert_eq!(rt; ways(each, &[7, 7, 7, 7]), all(3, Test::Repetition));
     Ok(())
 }
 
@@ -79,9 +104,9 @@ fn windows_follow_one_another(rt: HostRuntime) -> Result<(), Fail> {
     for at in 0..513 {
         samples[at] = if at % 2 == 0 { 5 } else { 6 };
     }
-    assert_eq!(rt; both(cutoffs, &samples), [None, None]);
+    assert_eq!(rt; ways(cutoffs, &samples), [None, None, None]);
     samples[511] = 5;
-    assert_eq!(rt; both(cutoffs, &samples), twice(511, Test::Proportion));
+    assert_eq!(rt; ways(cutoffs, &samples), all(511, Test::Proportion));
     // A window that slides would count the samples 5 at places 1 and 512 together.
     for at in 2..512 {
         samples[at] = if at % 2 == 0 { 6 } else { 7 };
@@ -89,7 +114,10 @@ fn windows_follow_one_another(rt: HostRuntime) -> Result<(), Fail> {
     samples[0] = 1;
     samples[1] = 5;
     samples[512] = 5;
-    assert_eq!(rt; both(Cutoffs::new(4, 512, 2)?, &samples), [None, None]);
+    assert_eq!(rt;
+        ways(Cutoffs::new(4, 512, 2)?, &samples),
+        [None, None, None]
+    );
     Ok(())
 }
 
@@ -100,15 +128,15 @@ fn alarms_come_at_each_place(rt: HostRuntime) -> Result<(), Fail> {
     for at in 0..530 {
         quiet[at] = (at % 251) as u8;
     }
-    assert_eq!(rt; both(cutoffs, &quiet), [None, None]);
+    assert_eq!(rt; ways(cutoffs, &quiet), [None, None, None]);
     for at in 2..530 {
         let mut samples = quiet;
         samples[at - 2] = 255;
         samples[at - 1] = 255;
         samples[at] = 255;
         assert_eq!(rt;
-            both(cutoffs, &samples[..at + 1]),
-            twice(at, Test::Repetition)
+            ways(cutoffs, &samples[..at + 1]),
+            all(at, Test::Repetition)
         );
         if at % 512 >= 6 {
             samples[at / 512 * 512] = 255;
@@ -116,10 +144,45 @@ fn alarms_come_at_each_place(rt: HostRuntime) -> Result<(), Fail> {
             samples[at - 3] = 254;
             samples[at - 1] = 254;
             assert_eq!(rt;
-                both(cutoffs, &samples[..at + 1]),
-                twice(at, Test::Proportion)
+                ways(cutoffs, &samples[..at + 1]),
+                all(at, Test::Proportion)
             );
         }
+    }
+    Ok(())
+}
+
+#[test]
+fn pieces_end_anywhere(rt: HostRuntime) -> Result<(), Fail> {
+    let cutoffs = Cutoffs::new(3, 512, 5)?;
+    let mut samples = [0u8; 530];
+    for at in 0..530 {
+        samples[at] = (at % 251) as u8;
+    }
+    for at in 521..524 {
+        samples[at] = 255;
+    }
+    for cut in 0..531 {
+        assert_eq!(rt;
+            in_two(cutoffs, &samples, cut),
+            Some(Alarm {
+                at: 523,
+                test: Test::Repetition
+            })
+        );
+    }
+    // Of the second window's first, the fourth sample like it is the fifth with it.
+    for at in [514, 516, 518, 520] {
+        samples[at] = samples[512];
+    }
+    for cut in 0..531 {
+        assert_eq!(rt;
+            in_two(cutoffs, &samples, cut),
+            Some(Alarm {
+                at: 520,
+                test: Test::Proportion
+            })
+        );
     }
     Ok(())
 }

@@ -1,43 +1,31 @@
-use Rattle.std.proofs.Common.{arith}
-use Rattle.health_tests.proofs.Stepping.{below, answered, stood_if, still_stands}
+use Rattle.std.proofs.Common.{sym, subst}
+use Rattle.health_tests.specs.Numbers.{IsBelow}
+use Rattle.health_tests.specs.Cutoffs.{Limits, limits}
+use Rattle.health_tests.proofs.Stepping.{below, same_limits, answered, stood_if, still_stands}
 use Rattle.health_tests.proofs.continuous.Tests.step.Goals as goal
 
-pub with-next-requires-clause-run : goal.with-next-requires-clause-run
-with-next-requires-clause-run c =
-    let i = c.self.inside in let sound = c.window.ensures.sound in let (x, stands) = c.self.invariant in
-    omega (arith, (below (record { cutoffs = i.cutoffs; tail = i.tail }) sound x stands).run, sound.fits)
-
-pub with-next-requires-clause-place : goal.with-next-requires-clause-place
-with-next-requires-clause-place c =
+pub add-requires-clause-below : goal.add-requires-clause-below
+add-requires-clause-below c =
     let i = c.self.inside in let (x, stands) = c.self.invariant in
-    omega (arith, (below (record { cutoffs = i.cutoffs; tail = i.tail }) c.window.ensures.sound x stands).place, c.window.ensures.value)
-
-pub with-next-requires-clause-equal : goal.with-next-requires-clause-equal
-with-next-requires-clause-equal c =
-    let i = c.self.inside in let sound = c.window.ensures.sound in let (x, stands) = c.self.invariant in
-    omega (arith, (below (record { cutoffs = i.cutoffs; tail = i.tail }) sound x stands).equal, sound.within, c.window.ensures.value, c.window.ensures.range.1)
+    let same = same_limits i.cutoffs c.rct.result c.window.result c.apt.result c.rct.ensures.value c.window.ensures.value c.apt.ensures.value in
+    subst (λ (m : Limits). IsBelow m i.tail) (sym same) (below (record { cutoffs = i.cutoffs; tail = i.tail }) c.rct.ensures.sound x stands)
 
 pub invariant_of-self : goal.invariant_of-self
 invariant_of-self c =
-    still_stands c.args.self.now c.self.inside.cutoffs c.self.inside.tail c.with-next.result c.window.result c.args.sample c.alarm-answer.result
-    c.self.view_is c.window.ensures.value c.with-next.ensures c.alarm-answer.ensures c.is_none.result c.is_none.ensures c.if-is_none.true c.self.invariant
+    still_stands c.args.self.now c.self.inside.cutoffs (limits c.rct.result c.window.result c.apt.result) c.self.inside.tail c.add.new.self c.args.sample c.add.result
+    c.self.view_is (same_limits c.self.inside.cutoffs c.rct.result c.window.result c.apt.result c.rct.ensures.value c.window.ensures.value c.apt.ensures.value) c.add.ensures.answer c.add.ensures.numbers c.add.ensures.alarmed c.self.invariant
 
-pub returns-then-is_none-clause-alarm : goal.returns-then-is_none-clause-alarm
-returns-then-is_none-clause-alarm c =
-    answered c.args.self.now c.self.inside.cutoffs c.self.inside.tail c.with-next.result c.window.result c.args.sample c.alarm-answer.result
-    c.self.view_is c.window.ensures.value c.with-next.ensures c.alarm-answer.ensures
+pub returns-clause-alarm : goal.returns-clause-alarm
+returns-clause-alarm c =
+    answered c.args.self.now c.self.inside.cutoffs (limits c.rct.result c.window.result c.apt.result) c.self.inside.tail c.add.new.self c.args.sample c.add.result
+    c.self.view_is (same_limits c.self.inside.cutoffs c.rct.result c.window.result c.apt.result c.rct.ensures.value c.window.ensures.value c.apt.ensures.value) c.add.ensures.answer c.add.ensures.numbers
 
-pub returns-then-is_none-clause-quiet : goal.returns-then-is_none-clause-quiet
-returns-then-is_none-clause-quiet c =
-    stood_if c.args.self.now c.self.inside.cutoffs c.self.inside.tail c.with-next.result c.window.result c.args.sample c.alarm-answer.result
-    c.self.view_is c.window.ensures.value c.with-next.ensures c.alarm-answer.ensures
+pub returns-clause-quiet : goal.returns-clause-quiet
+returns-clause-quiet c =
+    stood_if c.args.self.now c.self.inside.cutoffs (limits c.rct.result c.window.result c.apt.result) c.self.inside.tail c.add.new.self c.args.sample c.add.result
+    c.self.view_is (same_limits c.self.inside.cutoffs c.rct.result c.window.result c.apt.result c.rct.ensures.value c.window.ensures.value c.apt.ensures.value) c.add.ensures.answer c.add.ensures.numbers
 
-pub returns-then-is_none-clause-stands : goal.returns-then-is_none-clause-stands
-returns-then-is_none-clause-stands c =
-    still_stands c.args.self.now c.self.inside.cutoffs c.self.inside.tail c.with-next.result c.window.result c.args.sample c.alarm-answer.result
-    c.self.view_is c.window.ensures.value c.with-next.ensures c.alarm-answer.ensures c.is_none.result c.is_none.ensures c.if-is_none.true c.self.invariant
-
-pub returns-else-is_none-clause-alarm : goal.returns-else-is_none-clause-alarm
-returns-else-is_none-clause-alarm c =
-    answered c.args.self.now c.self.inside.cutoffs c.self.inside.tail c.with-next.result c.window.result c.args.sample c.alarm-answer.result
-    c.self.view_is c.window.ensures.value c.with-next.ensures c.alarm-answer.ensures
+pub returns-clause-stands : goal.returns-clause-stands
+returns-clause-stands c =
+    still_stands c.args.self.now c.self.inside.cutoffs (limits c.rct.result c.window.result c.apt.result) c.self.inside.tail c.add.new.self c.args.sample c.add.result
+    c.self.view_is (same_limits c.self.inside.cutoffs c.rct.result c.window.result c.apt.result c.rct.ensures.value c.window.ensures.value c.apt.ensures.value) c.add.ensures.answer c.add.ensures.numbers c.add.ensures.alarmed c.self.invariant

@@ -1,0 +1,112 @@
+/* The peer of bench/health: both continuous health tests of SP 800-90B 4.4 over pseudo-random samples.
+ *
+ *   health_peer plain SAMPLES TIMES   the tests in a structure, with a function that takes one sample, as they are mostly written
+ *   health_peer fast SAMPLES TIMES    the tests' numbers in local variables of one loop, which compiles to the fastest code
+ *
+ * Both do the work of health_bench, with the same line on standard output.
+ */
+#include <stdint.h>
+#include <stdio.h>
+#include <stdlib.h>
+#include <string.h>
+
+enum { RCT = 5, WINDOW = 512, APT = 8 };
+
+enum answer { QUIET, REPETITION, PROPORTION };
+
+struct tests {
+    uint32_t rct, window, apt;
+    uint32_t run, place, equal;
+    uint8_t last, first;
+};
+
+static enum answer step(struct tests *t, uint8_t sample)
+{
+    if (sample == t->last)
+        t->run++;
+    else
+        t->run = 1;
+    t->last = sample;
+    if (t->place == 0) {
+        t->first = sample;
+        t->equal = 1;
+    } else if (sample == t->first) {
+        t->equal++;
+    }
+    if (++t->place == t->window)
+        t->place = 0;
+    if (t->run >= t->rct)
+        return REPETITION;
+    if (t->equal >= t->apt)
+        return PROPORTION;
+    return QUIET;
+}
+
+/* How many samples are tested up to the first alarm, and whether there is one. */
+static size_t run_plain(const uint8_t *samples, size_t len, int *alarmed)
+{
+    struct tests tests = {RCT, WINDOW, APT, 0, 0, 0, 0, 0};
+    for (size_t i = 0; i < len; i++) {
+        if (step(&tests, samples[i]) != QUIET) {
+            *alarmed = 1;
+            return i + 1;
+        }
+    }
+    return len;
+}
+
+static size_t run_fast(const uint8_t *samples, size_t len, int *alarmed)
+{
+    uint32_t run = 0, place = 0, equal = 0;
+    uint8_t last = 0, first = 0;
+    for (size_t i = 0; i < len; i++) {
+        uint8_t sample = samples[i];
+        if (sample != last) {
+            run = 1;
+        } else if (++run >= RCT) {
+            *alarmed = 1;
+            return i + 1;
+        }
+        last = sample;
+        if (place == 0) {
+            first = sample;
+            equal = 1;
+        } else if (sample == first && ++equal >= APT) {
+            *alarmed = 1;
+            return i + 1;
+        }
+        if (++place == WINDOW)
+            place = 0;
+    }
+    return len;
+}
+
+static void fill(uint8_t *samples, size_t len)
+{
+    uint64_t state = 0;
+    for (size_t i = 0; i < len; i++) {
+        state = state * 6364136223846793005u + 1442695040888963407u;
+        samples[i] = state >> 56;
+    }
+}
+
+int main(int argc, char **argv)
+{
+    int plain = argc == 4 && strcmp(argv[1], "plain") == 0;
+    long len = argc == 4 ? atol(argv[2]) : 0, times = argc == 4 ? atol(argv[3]) : 0;
+    uint8_t *samples = len > 0 ? malloc(len) : NULL;
+    if (samples == NULL || times < 1 || (!plain && strcmp(argv[1], "fast") != 0)) {
+        fprintf(stderr, "usage: health_peer plain|fast SAMPLES TIMES\n");
+        return 1;
+    }
+    unsigned long long tested = 0, alarms = 0;
+    fill(samples, len);
+    for (long i = 0; i < times; i++) {
+        int alarmed = 0;
+        samples[0] = i;
+        tested += plain ? run_plain(samples, len, &alarmed) : run_fast(samples, len, &alarmed);
+        alarms += alarmed;
+    }
+    printf("%llu samples, %llu alarms\n", tested, alarms);
+    return 0;
+}

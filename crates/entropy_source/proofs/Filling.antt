@@ -1,0 +1,96 @@
+-- Bytes that are filled block by block.
+use Rattle.std.proofs.Common.{◌≡◌, ◌≤◌, ◌<◌, ◌+◌, ◌-◌, ◌*◌, ◌/◌, ◌%◌, ℕ, zero, suc, List, [], ◌∷◌, ◌++◌, length, take, min, refl, sym, ap, ◌∙◌, subst, arith, length-append, suc-mul, add-one, zero-mul}
+use Rattle.std.specs.Prelude.{Option, Some, None, IsSome, Result, Ok, Err}
+use Rattle.std.proofs.Math.Seq.{take-append-add, take-nil}
+use Rattle.std.proofs.Math.Nat.{mul-le-mul_right}
+use Rattle.std.proofs.lemmas.List.{take_all}
+use Rattle.std.proofs.lemmas.Grind.{div_ceil_times}
+use Rattle.std.specs.Int.{div_ceil}
+use Rattle.entropy_source.specs.declared.answers.SourceRow.{SourceRow}
+use Rattle.entropy_source.specs.declared.answers.SourceRefusal.{SourceRefusal}
+use Rattle.entropy_source.specs.Source.{SourceState, need_of_block}
+use Rattle.entropy_source.specs.Views.{SourceView, IsStateOf, Goes, source_state}
+use Rattle.entropy_source.specs.Steps.{LeadsBlocks, StopsBlocks, MakesBlock, Fills}
+use Rattle.entropy_source.proofs.Conditioning.{blocks_none, blocks_more, blocks_stop}
+
+-- n bytes of two parts, where the first has no more than n
+take_two : (front back : List ℕ) (n : ℕ) → length front ≤ n → take n (front ++ back) ≡ front ++ take (n - length front) back
+take_two front back n fits =
+    let e : length front + (n - length front) ≡ n = omega arith in
+    ap (λ (m : ℕ). take m (front ++ back)) (sym e) ∙ take-append-add front back (n - length front)
+
+-- a place before the last block is within the bytes, and the blocks have room for all of them
+pub within : (n len i : ℕ) → 0 < len → i < div_ceil n len → i * len ≤ n
+within n len i some h =
+    let bound = (div_ceil_times n len some).1 in
+    let more : (i + 1) * len ≤ div_ceil n len * len = mul-le-mul_right len (omega arith) in
+    let one : (i + 1) * len ≡ i * len + len = rw (add-one, suc-mul) refl in
+    omega arith
+
+pub enough : (n len : ℕ) → 0 < len → n ≤ div_ceil n len * len
+enough n len some = (div_ceil_times n len some).0
+
+-- one more block
+fill_step : (bytes block out after : List ℕ) (i len : ℕ) → length bytes ≡ i * len → length block ≡ len → i * len ≤ length out → length after ≡ length out
+    → take (i * len) out ≡ take (length out) bytes
+    → take (i * len + length block) after ≡ take (i * len) out ++ take (length out - i * len) block
+    → (length (bytes ++ block) ≡ (i + 1) * len) × (take ((i + 1) * len) after ≡ take (length after) (bytes ++ block))
+fill_step bytes block out after i len lb lk fits same so_far put =
+    let one : (i + 1) * len ≡ i * len + len = rw (add-one, suc-mul) refl in
+    let le : length bytes ≤ length out = omega arith in
+    let front : take (length out) bytes ≡ bytes = take_all (length out) bytes le in
+    let two : take (length out) (bytes ++ block) ≡ bytes ++ take (length out - i * len) block =
+    take_two bytes block (length out) le ∙ ap (λ k. bytes ++ take (length out - k) block) lb in
+    let all : take ((i + 1) * len) after ≡ take (length out) (bytes ++ block) =
+    ap (λ k. take k after) (one ∙ ap (λ k. i * len + k) (sym lk)) ∙ (put ∙ (ap (λ z. z ++ take (length out - i * len) block) (so_far ∙ front) ∙ sym two)) in
+    (omega (arith, length-append bytes block), all ∙ ap (λ k. take k (bytes ++ block)) (sym same))
+
+module _ {S : Type 0} (told : S → Option (List ℕ)) (faults : S → ℕ) (row : SourceRow) (blocks len : ℕ) where
+  -- the first i blocks are made, and stand in the bytes
+  abbrev pub Filled : SourceView S → SourceView S → ℕ → List ℕ → Type 0
+  Filled v w i out = Goes told faults v w (λ s now. (bytes : List ℕ) × LeadsBlocks row s now blocks (blocks - i) bytes
+      × (length bytes ≡ i * len) × (take (i * len) out ≡ take (length out) bytes))
+
+  pub filled_none : (v : SourceView S) (out : List ℕ) → Filled v v 0 out
+  filled_none v out s st =
+      let all : blocks ≡ blocks - 0 = omega arith in
+      (s, st, ([], subst (λ k. LeadsBlocks row s s blocks k []) all (blocks_none row s blocks), sym (zero-mul len), rw (zero-mul, take-nil) refl))
+
+  pub filled_more : (v m w : SourceView S) (i : ℕ) (out after block : List ℕ) → Filled v m i out → m.row ≡ row → i < blocks
+      → Goes told faults m w (λ s now. (left : ℕ) → LeadsBlocks m.row s now (suc left) left block)
+      → length block ≡ len → i * len ≤ length out → length after ≡ length out
+      → take (i * len + length block) after ≡ take (i * len) out ++ take (length out - i * len) block
+      → Filled v w (i + 1) after
+  filled_more v m w i out after block a is less b lk fits same put s st =
+      let (mid, mid_stands, (bytes, first, lb, so_far)) = a s st in
+      let (now, stands, second) = b mid mid_stands in
+      let left : suc (blocks - (i + 1)) ≡ blocks - i = omega arith in
+      let made : LeadsBlocks row mid now (blocks - i) (blocks - (i + 1)) block =
+      subst (λ k. LeadsBlocks row mid now k (blocks - (i + 1)) block) left (subst (λ r. LeadsBlocks r mid now (suc (blocks - (i + 1))) (blocks - (i + 1)) block) is (second (blocks - (i + 1)))) in
+      let step = fill_step bytes block out after i len lb lk fits same so_far put in
+      (now, stands, (bytes ++ block, blocks_more row s mid now blocks (blocks - i) bytes first (blocks - (i + 1)) block made, step.0, step.1))
+
+  pub filled_stops : (v m w : SourceView S) (i : ℕ) (out : List ℕ) (why : SourceRefusal) → Filled v m i out → m.row ≡ row → i < blocks
+      → Goes told faults m w (λ s now. (left : ℕ) → StopsBlocks m.row s now (suc left) why)
+      → Goes told faults v w (λ s now. StopsBlocks row s now blocks why)
+  filled_stops v m w i out why a is less b s st =
+      let (mid, mid_stands, (bytes, first, lb, so_far)) = a s st in
+      let (now, stands, second) = b mid mid_stands in
+      let left : suc (blocks - (i + 1)) ≡ blocks - i = omega arith in
+      let made : StopsBlocks row mid now (blocks - i) why =
+      subst (λ k. StopsBlocks row mid now k why) left (subst (λ r. StopsBlocks r mid now (suc (blocks - (i + 1))) why) is (second (blocks - (i + 1)))) in
+      (now, stands, blocks_stop row s mid now blocks (blocks - i) bytes first why made)
+
+  pub filled_all : (v w : SourceView S) (out : List ℕ) (wanted : ℕ) → wanted ≡ blocks → length out ≤ blocks * len → Filled v w blocks out
+      → Goes told faults v w (λ s now. (bytes : List ℕ) × LeadsBlocks row s now wanted 0 bytes × (out ≡ take (length out) bytes))
+  filled_all v w out wanted is enough a s st =
+      let (now, stands, (bytes, leads, lb, all)) = a s st in
+      let none : blocks - blocks ≡ 0 = omega arith in (
+        now,
+        stands,
+        (
+          bytes,
+          subst (λ k. LeadsBlocks row s now k 0 bytes) (sym is) (subst (λ k. LeadsBlocks row s now blocks k bytes) none leads),
+          sym (take_all (blocks * len) out enough) ∙ all,
+        ),
+      )

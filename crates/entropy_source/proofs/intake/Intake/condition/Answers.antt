@@ -1,0 +1,37 @@
+use Rattle.std.proofs.Common.{◌≡◌, ◌≤◌, ◌+◌, ◌-◌, ℕ, take, length, refl, sym, ap, ◌∙◌, arith}
+use Rattle.entropy_source.specs.Source.{need_of_block}
+use Rattle.entropy_source.specs.Views.{SourceView}
+use Rattle.entropy_source.proofs.Joining.{read_facts, same_blocks}
+use Rattle.entropy_source.proofs.Conditioning.{held_none, held_more, held_stops, held_all}
+use Rattle.entropy_source.proofs.intake.Intake.condition.Goals as goal
+
+pub loop-lacks-init : goal.loop-lacks-init
+loop-lacks-init g c =
+    let total = c.need-total.ensures.count ∙ ap (λ (v : SourceView g.row.S.Denot). need_of_block v.row) c.self.view_is in record {
+      row = refl;
+      tested = c.requires.tested;
+      taken = ap (λ k. c.args.self.now.taken + k) total;
+      blocks = refl;
+      leads = held_none g.S.Samples.told g.S.Samples.faults c.args.self.now.row c.args.self.now c.start-block.result c.self.inside.row.cond c.need-total.result
+          (ap (λ (v : SourceView g.row.S.Denot). v.row.cond) c.self.view_is) total c.start-block.ensures;
+    }
+
+pub loop-lacks-preserved : goal.loop-lacks-preserved
+loop-lacks-preserved g c =
+    let e = c.in-Ok.ensures in
+    let got = take c.in-Ok.count c.read.new.piece in
+    let left = c.loop-lacks.lacks - c.in-Ok.count in
+    let facts = read_facts g.S.Samples.told g.S.Samples.faults c.loop-lacks.self.row c.loop-lacks.lacks left got c.loop-lacks.self c.read.new.self e.comes c.loop-lacks.invariant.tested in record {
+      row = e.row ∙ c.loop-lacks.invariant.row;
+      tested = facts.0;
+      taken = omega (arith, facts.1, facts.2, c.loop-lacks.invariant.taken);
+      blocks = same_blocks g.S.Samples.told g.S.Samples.faults c.loop-lacks.self.row c.loop-lacks.lacks left got c.loop-lacks.self c.read.new.self e.comes ∙ c.loop-lacks.invariant.blocks;
+      leads = held_more g.S.Samples.told g.S.Samples.faults c.args.self.now.row c.args.self.now c.loop-lacks.self c.read.new.self c.loop-lacks.block c.push.new.self
+          c.loop-lacks.lacks left got c.loop-lacks.invariant.leads c.loop-lacks.invariant.row e.comes
+          (λ before h. c.push.ensures c.args.self.now.row.cond (need_of_block c.args.self.now.row) before h);
+    }
+
+pub returns-in-Err-clause-comes : goal.returns-in-Err-clause-comes
+returns-in-Err-clause-comes g c =
+    held_stops g.S.Samples.told g.S.Samples.faults c.args.self.now.row c.args.self.now c.loop-lacks.self c.read.new.self c.loop-lacks.block c.loop-lacks.lacks c.in-Err.why
+    c.loop-lacks.invariant.leads c.loop-lacks.invariant.row c.in-Err.ensures.comes

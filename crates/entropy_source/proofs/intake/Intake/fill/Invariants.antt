@@ -1,0 +1,13 @@
+use Rattle.std.proofs.Common.{◌≡◌, ◌≤◌, ◌+◌, ◌*◌, ℕ, length}
+use Rattle.std.specs.Prelude.{IsSome}
+use Rattle.entropy_source.specs.Source.{need_of_block}
+use Rattle.entropy_source.proofs.Filling.{Filled}
+use Rattle.entropy_source.proofs.intake.Intake.fill.Given as goal
+
+abbrev pub invariant-loop-i : goal.invariant-loop-i
+invariant-loop-i g l = record {
+  row : l.self.row ≡ l.fn.self.row;
+  tested : IsSome l.self.tail;
+  taken : l.self.taken ≡ l.fn.self.taken + l.i * need_of_block l.fn.self.row;
+  filled : Filled g.S.Samples.told g.S.Samples.faults l.fn.self.row l.blocks l.len l.fn.self l.self l.i l.out;
+}

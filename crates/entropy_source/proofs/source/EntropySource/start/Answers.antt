@@ -1,0 +1,30 @@
+use Rattle.entropy_source.proofs.Ends.{start_acts, start_facts}
+use Rattle.entropy_source.proofs.source.EntropySource.start.Goals as goal
+
+pub returns-clause-acts : goal.returns-clause-acts
+returns-clause-acts g c fits =
+    start_acts g.S.Samples.told g.S.Samples.faults c.self.inside.intake c.args.self.now c.start.new.self c.self.view_is c.start.result c.start.ensures.acts
+
+pub returns-clause-passed : goal.returns-clause-passed
+returns-clause-passed g c =
+    (start_facts g.S.Samples.told g.S.Samples.faults c.self.inside.intake c.args.self.now c.start.new.self c.self.view_is c.start.result (λ _ _. Unit {0}) (λ _. Unit {0}) c.start.ensures.acts).ok
+
+pub returns-clause-only_spent : goal.returns-clause-only_spent
+returns-clause-only_spent g c =
+    (start_facts g.S.Samples.told g.S.Samples.faults c.self.inside.intake c.args.self.now c.start.new.self c.self.view_is c.start.result _ (λ _. Unit {0}) c.start.ensures.acts).spent
+
+pub returns-clause-never_in_error : goal.returns-clause-never_in_error
+returns-clause-never_in_error g c =
+    (start_facts g.S.Samples.told g.S.Samples.faults c.self.inside.intake c.args.self.now c.start.new.self c.self.view_is c.start.result (λ _ _. Unit {0}) _ c.start.ensures.acts).error
+
+pub returns-clause-fault : goal.returns-clause-fault
+returns-clause-fault g c =
+    (start_facts g.S.Samples.told g.S.Samples.faults c.self.inside.intake c.args.self.now c.start.new.self c.self.view_is c.start.result (λ _ _. Unit {0}) (λ _. Unit {0}) c.start.ensures.acts).fault
+
+pub returns-clause-failed : goal.returns-clause-failed
+returns-clause-failed g c =
+    (start_facts g.S.Samples.told g.S.Samples.faults c.self.inside.intake c.args.self.now c.start.new.self c.self.view_is c.start.result (λ _ _. Unit {0}) (λ _. Unit {0}) c.start.ensures.acts).failed
+
+pub returns-clause-want : goal.returns-clause-want
+returns-clause-want g c =
+    (start_facts g.S.Samples.told g.S.Samples.faults c.self.inside.intake c.args.self.now c.start.new.self c.self.view_is c.start.result (λ _ _. Unit {0}) (λ _. Unit {0}) c.start.ensures.acts).want

@@ -1,0 +1,112 @@
+-- What contracts see of a source, the state that it stands for, and what a start and a draw do to it.
+-- This project's own.
+use Rattle.std.specs.Prelude.{◌≡◌, ◌≤◌, ◌^◌, ℕ, List, [], ◌∷◌, take, Option, Some, None, IsSome, IfSome, Result, Ok, Err, MatchResult}
+use Rattle.health_tests.specs.declared.numbers.Tail.{Tail}
+use Rattle.health_tests.specs.Cutoffs.{AreSound}
+use Rattle.entropy_source.specs.Source.{SourceAct, SourceState, source_after_all}
+use Rattle.entropy_source.specs.Draws.{Drawn, Start, found_in}
+use Rattle.entropy_source.specs.declared.answers.SourceRow.{SourceRow}
+use Rattle.entropy_source.specs.declared.answers.SourceMode.{SourceMode}
+use Rattle.entropy_source.specs.declared.answers.SourceMode.TheVariants.{Idle, Running, Alarmed}
+use Rattle.entropy_source.specs.declared.answers.SourceRefusal.{SourceRefusal}
+use Rattle.entropy_source.specs.declared.answers.Cause.{Cause}
+use Rattle.entropy_source.specs.declared.answers.Cause.TheVariants.{NotStarted, Alarm}
+use Rattle.entropy_source.specs.declared.answers.Range.{Range}
+
+-- a source: what is set of it, its numbers, its mode, what its tests keep, and its samples
+pub record SourceView (S : Type 0) : Type 0 where
+  pub row : SourceRow
+  pub taken : ℕ
+  pub blocks : ℕ
+  pub alarms : ℕ
+  pub mode : SourceMode
+  pub tail : Option Tail
+  pub samples : S
+
+-- the state of a source, where its samples tell what is to come and how often they failed
+abbrev pub source_state : {S : Type 0} → (S → Option (List ℕ)) → (S → ℕ) → SourceView S → SourceState
+source_state told faults v = record {
+  taken = v.taken;
+  blocks = v.blocks;
+  alarms = v.alarms;
+  mode = v.mode;
+  tail = v.tail;
+  told = told v.samples;
+  faults = faults v.samples;
+}
+
+-- The state stands for the source: it is the source's own, but for samples to come that it need not tell, since samples that
+-- told nothing may begin to tell.
+pub record IsStateOf {S : Type 0} (told : S → Option (List ℕ)) (faults : S → ℕ) (v : SourceView S) (s : SourceState) : Type 0 where
+  pub own : s ≡ record (source_state told faults v) { told = s.told }
+  pub tells : IfSome s.told (λ left. told v.samples ≡ Some left)
+
+-- whatever state stands for the source before a call, one stands for it afterwards, and this is so of both
+abbrev pub Goes : {S : Type 0} → (S → Option (List ℕ)) → (S → ℕ) → SourceView S → SourceView S → (SourceState → SourceState → Type 0) → Type 0
+Goes told faults old new P = (s : SourceState) → IsStateOf told faults old s → (now : SourceState) × IsStateOf told faults new now × P s now
+
+-- a source as it is opened over these samples
+abbrev pub opened_view : {S : Type 0} → SourceRow → Tail → S → SourceView S
+opened_view row tail samples =
+    record { row = row; taken = 0; blocks = 0; alarms = 0; mode = Idle; tail = Some tail; samples = samples }
+
+-- what the tests keep counts until they alarm
+abbrev pub kept_tail : SourceMode → Tail → Option Tail
+kept_tail Idle t = Some t
+kept_tail Running t = Some t
+kept_tail (Alarmed index test) t = None
+
+-- what is set of a source is in range
+pub record IsSound (row : SourceRow) : Type 0 where
+  pub num_low : 1 ≤ row.num
+  pub num_high : row.num ≤ 8000
+  pub den_low : 1 ≤ row.den
+  pub den_high : row.den ≤ 1000
+  pub cutoffs : AreSound row.cutoffs
+  pub startup_low : 1 ≤ row.startup
+  pub startup_high : row.startup ≤ 65536
+
+-- the tests keep something as long as they have not alarmed
+abbrev pub HasTail : SourceMode → Option Tail → Type 0
+HasTail Idle tail = IsSome tail
+HasTail Running tail = IsSome tail
+HasTail (Alarmed index test) tail = tail ≡ None
+
+-- what is true of every source
+pub record IsSource {S : Type 0} (v : SourceView S) : Type 0 where
+  pub row : IsSound v.row
+  pub taken : v.taken ≤ 2 ^ 60
+  pub blocks : v.blocks ≤ v.taken
+  pub alarms : v.alarms ≤ v.taken
+  pub tail : HasTail v.mode v.tail
+
+-- why a source that isn't running is in error
+abbrev pub error_of : SourceMode → Option Cause
+error_of Idle = Some NotStarted
+error_of Running = None
+error_of (Alarmed index test) = Some (Alarm index test)
+
+-- the answer to a start, which gives no bytes
+abbrev pub without_bytes : {T : Type 0} → Result T SourceRefusal → Result (List ℕ) SourceRefusal
+without_bytes (Ok done) = Ok []
+without_bytes (Err why) = Err why
+
+-- a start that isn't refused before the first sample: some acts are a start with this result, and the state is that after them
+pub record HasStarted {T : Type 0} (row : SourceRow) (result : Result T SourceRefusal) (old new : SourceState) : Type 0 where
+  pub acts : List SourceAct
+  pub start : Start row old acts (without_bytes result)
+  pub state : new ≡ source_after_all row old acts
+
+-- the answer to a draw of n bytes by the bytes of its blocks
+abbrev pub AnswersDraw : SourceState → SourceState → ℕ → List ℕ → Result (List ℕ) SourceRefusal → Result Range SourceRefusal → Type 0
+AnswersDraw old new n out bytes result =
+    MatchResult bytes (λ all. (result ≡ Ok (record { from = old.taken; to = new.taken })) × (out ≡ take n all)) (λ why. result ≡ Err why)
+
+-- a draw of n bytes that isn't refused before the first sample: some acts are a draw, with alarms told by what the tests keep
+-- of the samples before, and the state is that after them
+pub record HasDrawn (row : SourceRow) (n : ℕ) (out : List ℕ) (result : Result Range SourceRefusal) (old new : SourceState) : Type 0 where
+  pub acts : List SourceAct
+  pub bytes : Result (List ℕ) SourceRefusal
+  pub draw : Drawn row (found_in row.cutoffs old.tail) old (n ∷ []) acts bytes
+  pub state : new ≡ source_after_all row old acts
+  pub answer : AnswersDraw old new n out bytes result

@@ -1,0 +1,55 @@
+// Laws on acts in a row: each is a function without a body, whose contract is the law. No program calls them; they tie the step
+// from state to state to what is counted on all acts, and an answer to its acts.
+ghost use Rattle.std.specs.Prelude.{◌≡◌, ◌+◌, ◌++◌, ℕ, List, [], length, drop, false, Option, Some, Result, Ok};
+ghost use Rattle.std.specs.Option.{option_map};
+ghost use Rattle.health_tests.specs.Windows.{alarm_in};
+ghost use Rattle.health_tests.specs.Numbers.{tail_of, alarm_from};
+ghost use Rattle.health_tests.specs.declared.numbers.Tail.{Tail};
+ghost use Rattle.entropy_source.specs.Source.{SourceAct, SourceState, opened_source, source_after_all};
+ghost use Rattle.entropy_source.specs.Draws.{Draws, Drawn, Start, found_in};
+ghost use Rattle.entropy_source.specs.Counted.{samples_of, blocks_of, alarms_of, mode_after, tested_after, alarmed_after, behind};
+ghost use Rattle.entropy_source.specs.Outcomes.{Outcome};
+ghost use Rattle.entropy_source.specs.declared.answers.SourceRow.{SourceRow};
+ghost use Rattle.entropy_source.specs.declared.answers.SourceRefusal.{SourceRefusal};
+ghost use Rattle.entropy_source.specs.declared.answers.SourceMode.TheVariants as modes;
+
+/// The state of a source, counted on all its acts since it was opened: the samples taken are those that all reads gave, blocks
+/// and alarms are the acts of that kind, the samples to come are those behind the ones given, the mode is that of the last of
+/// Began, Started and Alarmed, and what the tests keep is counted on the samples since the last Began.
+pub fn states_are_counted()
+    ensures taken { (row : SourceRow) (told : Option (List ℕ)) (faults : ℕ) (acts : List SourceAct) →
+        (source_after_all row (opened_source told faults) acts).taken ≡ length (samples_of acts) }
+    ensures blocks { (row : SourceRow) (told : Option (List ℕ)) (faults : ℕ) (acts : List SourceAct) →
+        (source_after_all row (opened_source told faults) acts).blocks ≡ blocks_of acts }
+    ensures alarms { (row : SourceRow) (told : Option (List ℕ)) (faults : ℕ) (acts : List SourceAct) →
+        (source_after_all row (opened_source told faults) acts).alarms ≡ alarms_of acts }
+    ensures told { (row : SourceRow) (told : Option (List ℕ)) (faults : ℕ) (acts : List SourceAct) →
+        (source_after_all row (opened_source told faults) acts).told ≡ option_map (λ xs. drop (length (samples_of acts)) xs) told }
+    ensures mode { (row : SourceRow) (told : Option (List ℕ)) (faults : ℕ) (acts : List SourceAct) →
+        (source_after_all row (opened_source told faults) acts).mode ≡ mode_after modes.Idle acts }
+    ensures tail { (row : SourceRow) (told : Option (List ℕ)) (faults : ℕ) (acts : List SourceAct) → alarmed_after false acts ≡ false →
+        (source_after_all row (opened_source told faults) acts).tail ≡ Some (tail_of row.cutoffs.window (tested_after [] acts)) }
+{}
+
+/// Which answer a start gives: HealthFailed exactly where there is an alarm among the samples that it read, at the first one,
+/// WantOfEntropy exactly where a read gave none, and SourceFault exactly where a read failed.
+pub fn starts_end_by_their_reads()
+    ensures { (row : SourceRow) (s : SourceState) (acts : List SourceAct) (result : Result (List ℕ) SourceRefusal) → Start row s acts result →
+        Outcome s.taken (alarm_in row.cutoffs [] (samples_of acts)) acts result }
+{}
+
+/// The same of a draw, whose alarm is the first one behind what the tests kept of the samples before.
+pub fn draws_end_by_their_reads()
+    ensures { (row : SourceRow) (t : Tail) (s : SourceState) (wants : List ℕ) (acts : List SourceAct) (result : Result (List ℕ) SourceRefusal) →
+        Drawn row (found_in row.cutoffs (Some t)) s wants acts result → Outcome s.taken (alarm_from row.cutoffs t (samples_of acts)) acts result }
+{}
+
+/// A draw of blocks that was answered, and another from the state that it left: together they are one draw of all the blocks,
+/// with the bytes of both. Each tells alarms by what the tests keep at its own beginning.
+pub fn draws_join()
+    ensures { (row : SourceRow) (t : Tail) (n m : ℕ) (s : SourceState) (acts : List SourceAct) (mid : List ℕ) (more : List SourceAct)
+        (end : Result (List ℕ) SourceRefusal) → s.tail ≡ Some t →
+        Draws row (found_in row.cutoffs (Some t)) n s [] [] acts (Ok mid) →
+        Draws row (found_in row.cutoffs (source_after_all row s acts).tail) m (source_after_all row s acts) [] [] more end →
+        Draws row (found_in row.cutoffs (Some t)) (n + m) s [] [] (acts ++ more) (behind mid end) }
+{}

@@ -1,0 +1,23 @@
+//! An entropy source (SP 800-90B 2.2): samples of a noise source are tested one by one, conditioned in blocks, and given out
+//! as bytes, until a health test alarms.
+//!
+//! - `answers`: what is set of a source, and what its calls answer;
+//! - `intake`: samples that are read, tested and counted, and the samples of a start-up;
+//! - `blocks`: conditioned blocks, and bytes filled with them;
+//! - `source`: the source with its calls;
+//! - `laws`: what is counted on all acts of a source, which answer comes, and two draws as one.
+#![tactic(auto)]
+
+mod answers;
+mod blocks;
+mod intake;
+mod laws;
+mod source;
+#[cfg(test)]
+mod tests;
+
+pub use answers::{Cause, Range, SourceMode, SourceRefusal, SourceRow};
+pub use laws::{
+    draws_end_by_their_reads, draws_join, starts_end_by_their_reads, states_are_counted,
+};
+pub use source::EntropySource;
