@@ -61,7 +61,7 @@ impl Tail {
         }
     }
 
-    // The same of a block.
+    // Adds the samples of a block, up to the first alarm among them.
     #[inline]
     fn add_block(&mut self, rct: u32, window: u16, apt: u16, samples: &[u8]) -> Option<Alarm>
         requires length { length samples.now ≡ 16 }
@@ -100,7 +100,7 @@ impl Tail {
         true
     }
 
-    // The same, one by one.
+    // Adds samples one by one, up to the first alarm among them.
     #[inline]
     fn add_each(&mut self, rct: u32, window: u16, apt: u16, samples: &[u8]) -> Option<Alarm>
         requires sound { AreSound (limits rct window apt) }

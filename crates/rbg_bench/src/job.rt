@@ -1,5 +1,6 @@
 // What the words ask for.
-ghost use Rattle.std.specs.Prelude.{◌≡◌, ◌≤◌, ◌∷◌, [], map, take, string_bytes, IfSome};
+ghost use Rattle.std.specs.Prelude.{◌≡◌, ◌≤◌, ◌∷◌, [], map, take, string_bytes, IfSome, IfNone};
+ghost use Rattle.rbg_bench.specs.declared.job.Mechanism.{Mechanism};
 ghost use Rattle.rbg_bench.specs.Lines.{name_of};
 
 use ctr_drbg::KeyLen;
@@ -23,6 +24,7 @@ pub struct Job {
 // The mechanism that a word names.
 fn mechanism_named(word: &str) -> Option<Mechanism>
     ensures named { IfSome result (λ mechanism. word.now ≡ name_of mechanism) }
+    ensures unnamed { IfNone result ((mechanism : Mechanism) → word.now ≡ name_of mechanism → ⊥) }
 {
     match word {
         "hmac-sha-224" => Some(Mechanism::OverHash(Hash::Sha224)),
