@@ -4,3 +4,4 @@ pub mod Alarms
 pub mod Longer
 pub mod Stepping
 pub mod Meanings
+pub mod Blocks

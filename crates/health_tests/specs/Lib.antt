@@ -1,4 +1,5 @@
 pub mod Cutoffs
 pub mod Windows
 pub mod Numbers
+pub mod Blocks
 pub mod Stands

@@ -1,7 +1,11 @@
 // The five numbers that the tests keep of a list of samples.
-ghost use Rattle.std.specs.Prelude.{◌≡◌, ◌<◌, length, IfSome, IfNone, OnSome};
+ghost use Rattle.std.specs.Prelude.{◌≡◌, ◌<◌, ◌^◌, true, false, length, IfSome, IfNone, OnSome};
+ghost use Rattle.health_tests.specs.Blocks.{AllDiffer};
 
 use crate::{Alarm, Test};
+
+// How many samples are looked at side by side.
+const BLOCK: usize = 16;
 
 /// What the tests need of the samples before: the length of the run of equal samples at the end, the place in its window of
 /// the sample to come, of the last sample's window how many samples equal its first, the last sample, and that first one.
@@ -16,6 +20,7 @@ pub struct Tail {
 
 impl Tail {
     ghost use Rattle.health_tests.specs.Cutoffs.{AreSound, limits};
+    ghost use Rattle.health_tests.specs.Blocks.{GoesPast};
     ghost use Rattle.health_tests.specs.Numbers.{IsBelow, tail_step, tail_after, alarm_by, alarm_from};
 
     /// The numbers of no sample.
@@ -27,7 +32,7 @@ impl Tail {
         first: 0,
     };
 
-    /// The numbers with samples added one by one, up to the first alarm among them.
+    /// The numbers with samples added, up to the first alarm among them.
     #[inline]
     pub fn go_on(&mut self, rct: u32, window: u16, apt: u16, samples: &[u8]) -> Option<Alarm>
         requires sound { AreSound (limits rct window apt) }
@@ -35,6 +40,75 @@ impl Tail {
         ensures answer { result ≡ alarm_from (limits rct window apt) self.old samples.now }
         ensures place { IfSome result (λ alarm. alarm.at < length samples.now) }
         ensures numbers { IfNone result (self.new ≡ tail_after window self.old samples.now) }
+    {
+        let blocks = samples.len() / BLOCK;
+        for i in 0..blocks {
+            let at = i * BLOCK;
+            if let Some(alarm) = self.add_block(rct, window, apt, &samples[at..at + BLOCK]) {
+                return Some(Alarm {
+                    at: at + alarm.at,
+                    test: alarm.test,
+                });
+            }
+        }
+        let at = blocks * BLOCK;
+        match self.add_each(rct, window, apt, &samples[at..]) {
+            Some(alarm) => Some(Alarm {
+                at: at + alarm.at,
+                test: alarm.test,
+            }),
+            None => None,
+        }
+    }
+
+    // Adds the samples of a block, up to the first alarm among them.
+    #[inline]
+    fn add_block(&mut self, rct: u32, window: u16, apt: u16, samples: &[u8]) -> Option<Alarm>
+        requires length { length samples.now ≡ 16 }
+        requires sound { AreSound (limits rct window apt) }
+        requires below { IsBelow (limits rct window apt) self.old }
+        ensures answer { result ≡ alarm_from (limits rct window apt) self.old samples.now }
+        ensures place { IfSome result (λ alarm. alarm.at < length samples.now) }
+        ensures numbers { IfNone result (self.new ≡ tail_after window self.old samples.now) }
+        ensures below { IfNone result (IsBelow (limits rct window apt) self.new) }
+    {
+        if self.goes_past(window, samples) {
+            return None;
+        }
+        self.add_each(rct, window, apt, samples)
+    }
+
+    // Adds a whole block within a window, where no sample of it is like the one before it or like the window's first. Then none
+    // can alarm, and the numbers need only its last. Nearly all blocks are such; the comparisons are made side by side.
+    #[inline]
+    fn goes_past(&mut self, window: u16, samples: &[u8]) -> bool
+        requires length { length samples.now ≡ 16 }
+        requires place { self.old.place < 2 ^ 16 }
+        ensures past { result ≡ true → GoesPast window self.old samples.now self.new }
+        ensures kept { result ≡ false → self.new ≡ self.old }
+    {
+        let place = self.place + BLOCK as u32;
+        if self.place == 0
+            || place >= u32::from(window)
+            || is_like(self.last, self.first, samples)
+        {
+            return false;
+        }
+        self.run = 1;
+        self.place = place;
+        self.last = samples[BLOCK - 1];
+        true
+    }
+
+    // Adds samples one by one, up to the first alarm among them.
+    #[inline]
+    fn add_each(&mut self, rct: u32, window: u16, apt: u16, samples: &[u8]) -> Option<Alarm>
+        requires sound { AreSound (limits rct window apt) }
+        requires below { IsBelow (limits rct window apt) self.old }
+        ensures answer { result ≡ alarm_from (limits rct window apt) self.old samples.now }
+        ensures place { IfSome result (λ alarm. alarm.at < length samples.now) }
+        ensures numbers { IfNone result (self.new ≡ tail_after window self.old samples.now) }
+        ensures below { IfNone result (IsBelow (limits rct window apt) self.new) }
     {
         for at in 0..samples.len() {
             if let Some(test) = self.add(rct, window, apt, samples[at]) {
@@ -78,4 +152,19 @@ impl Tail {
         }
         None
     }
+}
+
+// Whether a sample of a block is like the one before it, of which the first is given, or like a certain one.
+#[inline]
+fn is_like(before: u8, certain: u8, block: &[u8]) -> bool
+    requires { length block.now ≡ 16 }
+    ensures { result ≡ false → AllDiffer before certain block.now }
+{
+    let mut like = false;
+    let mut last = before;
+    for i in 0..BLOCK {
+        like |= (block[i] == last) | (block[i] == certain);
+        last = block[i];
+    }
+    like
 }

@@ -1,5 +1,7 @@
 // What the words ask for.
-ghost use Rattle.std.specs.Prelude.{◌≤◌, IfSome};
+ghost use Rattle.std.specs.Prelude.{◌≡◌, ◌≤◌, ◌∷◌, [], map, take, string_bytes, IfSome, IfNone};
+ghost use Rattle.rbg_bench.specs.declared.job.Mechanism.{Mechanism};
+ghost use Rattle.rbg_bench.specs.Lines.{name_of};
 
 use ctr_drbg::KeyLen;
 use hmac_core::Hash;
@@ -20,7 +22,10 @@ pub struct Job {
 }
 
 // The mechanism that a word names.
-fn mechanism_named(word: &str) -> Option<Mechanism> {
+fn mechanism_named(word: &str) -> Option<Mechanism>
+    ensures named { IfSome result (λ mechanism. word.now ≡ name_of mechanism) }
+    ensures unnamed { IfNone result ((mechanism : Mechanism) → word.now ≡ name_of mechanism → ⊥) }
+{
     match word {
         "hmac-sha-224" => Some(Mechanism::OverHash(Hash::Sha224)),
         "hmac-sha-256" => Some(Mechanism::OverHash(Hash::Sha256)),
@@ -37,6 +42,7 @@ fn mechanism_named(word: &str) -> Option<Mechanism> {
 
 // The job, where there are three words, BYTES is at most 65,536 and TIMES 1 to 1,000,000.
 pub fn read_job(words: &[String]) -> Option<Job>
+    ensures mechanism { IfSome result (λ job. take 1 (map string_bytes words.now) ≡ name_of job.mechanism ∷ []) }
     ensures bytes { IfSome result (λ job. job.bytes ≤ 65536) }
     ensures times { IfSome result (λ job. (1 ≤ job.times) × (job.times ≤ 1000000)) }
 {

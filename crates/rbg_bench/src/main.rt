@@ -3,6 +3,7 @@
 #![tactic(auto)]
 
 mod job;
+mod line;
 mod work;
 mod worker;
 
@@ -24,8 +25,6 @@ fn main(rt: HostRuntime) -> io::Result<ExitCode> {
         eprintln!(rt; "usage: rbg_bench MECHANISM BYTES TIMES")?;
         return Ok(ExitCode::from(1));
     };
-    let mut out = vec![in rt.alloc(); 0u8; job.bytes]?;
-    let digest = work::digest_of_mechanism(job.mechanism, job.times, &mut out);
-    println!(rt; "{}", hex::encode(rt.alloc(), digest)?)?;
+    println!(rt; "{}", line::line_of(rt.alloc(), job)?)?;
     Ok(ExitCode::SUCCESS)
 }
