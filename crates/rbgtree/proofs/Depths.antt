@@ -1,6 +1,6 @@
 -- How deep a node of a tree stands, and its line.
 use Rattle.std.proofs.Common.{◌≡◌, ◌≤◌, ◌<◌, ℕ, zero, suc, ◌+◌, List, length, get_or, zero-add, refl, sym, ap, ◌∙◌, subst, arith}
-use Rattle.std.specs.Prelude.{Option, Some, None, option_and_then, option_map, unwrap_or, slice_get}
+use Rattle.std.specs.Prelude.{Option, Some, None, option_and_then, unwrap_or, slice_get}
 use Rattle.std.specs.List.{range_with_len}
 use Rattle.std.proofs.lemmas.List.FromFn.{get_or-range_with_len}
 use Rattle.tree_config.specs.Graph.{parent_at, after, HasDepth}

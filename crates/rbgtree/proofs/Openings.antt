@@ -1,6 +1,6 @@
 -- Samples that are opened one after another.
-use Rattle.std.proofs.Common.{◌≡◌, ◌≤◌, ◌<◌, ℕ, zero, suc, ◌+◌, List, [], ◌∷◌, ◌++◌, length, map, drop, take, get_or, refl, sym, ap, ◌∙◌, subst, arith, append_assoc, append-nil}
-use Rattle.std.specs.Prelude.{Option, Some, None, unwrap_or, Result, Ok, slice_get}
+use Rattle.std.proofs.Common.{◌≡◌, ◌≤◌, ℕ, zero, suc, ◌+◌, List, [], ◌∷◌, ◌++◌, length, map, drop, refl, sym, ap, ◌∙◌, subst, arith, append_assoc, append-nil}
+use Rattle.std.specs.Prelude.{Option, Some, None, unwrap_or, Ok, slice_get}
 use Rattle.std.proofs.lemmas.List.{drop_all}
 use Rattle.rbgtree.specs.Recordings.{Recordings, OpensSamples}
 use Rattle.rbgtree.specs.Check.{OpensOne, OpensAll}

@@ -1,14 +1,14 @@
 -- The plan of a file of which at most one byte more was read than a configuration may have.
-use Rattle.std.proofs.Common.{◌≡◌, ◌≤◌, ◌<◌, ℕ, List, length, take, refl, sym, ap, subst, ◌∙◌, inl, inr, arith}
+use Rattle.std.proofs.Common.{◌≡◌, ◌≤◌, ◌<◌, ℕ, List, length, take, refl, sym, ap, ◌∙◌, inl, inr, arith}
 use Rattle.std.specs.Prelude.{Option, Some, None, Result, Ok, Err, true, nat_lt}
 use Rattle.std.proofs.lemmas.Bool.{cases_lt, lt-ltb}
-use Rattle.std.proofs.lemmas.List.{length-take, take_all}
+use Rattle.std.proofs.lemmas.List.{length-take}
 use Rattle.tree_config.specs.declared.fault.ConfigFault.{ConfigFault}
 use Rattle.tree_config.specs.declared.fault.ConfigFault.TheVariants.{TooLarge}
-use Rattle.tree_config.specs.Rows.{Rows, document_of, rows_of, rows_at}
+use Rattle.tree_config.specs.Rows.{document_of, rows_of, rows_at}
 use Rattle.tree_config.specs.Fields.{◌>>=◌}
 use Rattle.tree_config.specs.Tree.{Tree, Plan}
-use Rattle.rbgtree.specs.Files.{Entries, IsFile, BeginsFile, IsWholeFile}
+use Rattle.rbgtree.specs.Files.{Entries, BeginsFile, IsWholeFile}
 
 too_large : (text : List ℕ) → 65536 < length text → document_of text ≡ Err (TooLarge 65536)
 unfolding document_of

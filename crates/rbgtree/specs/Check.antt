@@ -3,7 +3,7 @@
 use Rattle.std.specs.Prelude.{◌≡◌, ◌<◌, ℕ, ◌==◌, if◌then◌else◌, List, [], ◌∷◌, ◌++◌, length, map, flat_map, slice_get, Option, Some, None, Result, Ok, Err}
 use Rattle.std.specs.Io.KnownBytes.{Appends}
 use Rattle.rbg_bytes.specs.Streams.{Rose, AppendsFront}
-use Rattle.entropy_source.specs.Source.{SourceAct, SourceState, source_after_all, opened_source}
+use Rattle.entropy_source.specs.Source.{SourceAct, source_after_all, opened_source}
 use Rattle.entropy_source.specs.Draws.{Start}
 use Rattle.entropy_source.specs.declared.answers.SourceRow.{SourceRow}
 use Rattle.entropy_source.specs.declared.answers.SourceRefusal.{SourceRefusal}

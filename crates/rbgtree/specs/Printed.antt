@@ -1,6 +1,6 @@
 -- The lines that `check` prints of a source and of a node.
 -- This project's own.
-use Rattle.std.specs.Prelude.{ℕ, zero, suc, ◌+◌, List, [], ◌++◌, length, codes, decimal, flat_map, slice_get, option_map, unwrap_or, Option, Some, None, Result, Ok, Err}
+use Rattle.std.specs.Prelude.{ℕ, zero, suc, ◌+◌, List, [], ◌++◌, length, codes, decimal, flat_map, slice_get, option_map, unwrap_or, Option, Result, Ok, Err}
 use Rattle.std.specs.List.{range_with_len}
 use Rattle.rbg_bytes.specs.Kinds.{strength}
 use Rattle.conditioner.specs.Conditioned.{need}

@@ -1,6 +1,6 @@
 -- What the program does, by the status that it ends with, and what each status rests on.
 -- This project's own; a seed is used as SP 800-90A Rev. 1, 10.1.2.3 uses entropy and nonce.
-use Rattle.std.specs.Prelude.{◌≡◌, ◌<◌, ◌⊎◌, ℕ, List, [], ◌∷◌, length, take, drop}
+use Rattle.std.specs.Prelude.{◌≡◌, ◌<◌, ◌⊎◌, ℕ, List, [], length, take, drop}
 use Rattle.std.specs.declared.option.Option.{Option}
 use Rattle.rbg_bytes.specs.Streams.{Rose}
 use Rattle.hmac_core.specs.declared.hash.Hash.TheVariants.{Sha256}

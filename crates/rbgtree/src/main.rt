@@ -60,6 +60,8 @@ fn main(rt: HostRuntime) -> ExitCode {
 }
 
 #[cfg(test)]
+mod check_tests;
+#[cfg(test)]
 mod tests;
 #[cfg(test)]
 mod world_tests;

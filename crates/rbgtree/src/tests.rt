@@ -12,6 +12,7 @@ use sample_source::Recorded;
 use sha2::{Digest, Sha256};
 use std::process::Abort;
 use std::test::Fail;
+use tree_config::{ConfigFault, Field, Place};
 
 /// What a run is over: how many bytes of 00, 01 and so on the file `s` has, how many bytes one read of the input gives, and
 /// which calls of the world, the input and the output fail.
@@ -212,7 +213,9 @@ fn cut_and_malformed_input(rt: HostRuntime) -> Result<(), Fail> {
 #[test]
 fn words_and_seeds_that_are_refused(rt: HostRuntime) -> Result<(), Fail> {
     let input = bytes_of(&rt, FIRST)?;
-    let usages: [&[&str]; 5] = [
+    let usages: [&[&str]; 7] = [
+        &["check"],
+        &["check", "c", "c"],
         &[],
         &["seed"],
         &["answer"],
@@ -313,11 +316,73 @@ fn each_status_has_its_number_and_line(rt: HostRuntime) -> Result<(), Fail> {
             "quota of 1048576 frames\n",
         ),
         (short, 10, "seed of node 0 has 47 of 48 bytes\n"),
+        (
+            Status::SourceRefused { source: 3 },
+            11,
+            "source 3 refused\n",
+        ),
     ];
     for (status, number, line) in cases {
         let alloc = rt.alloc();
         let mut sink = MemSink::new(vec![in alloc; 0u8; 512]?, Vec::new(alloc));
         assert_eq!(rt; status.number(), number);
+        assert_eq!(rt; status.line(&mut sink), Ok(()));
+        assert_eq!(rt; sink.written(), line.as_bytes());
+    }
+    Ok(())
+}
+
+#[test]
+fn each_fault_of_a_configuration_has_its_line(rt: HostRuntime) -> Result<(), Fail> {
+    let limit = 65_536;
+    let top = ConfigFault::BadField {
+        place: Place::Top,
+        field: Field::Version,
+    };
+    let source = ConfigFault::BadField {
+        place: Place::Source(3),
+        field: Field::Conditioner,
+    };
+    let node = ConfigFault::BadField {
+        place: Place::Node(62),
+        field: Field::Unknown,
+    };
+    let sources = ConfigFault::TooMany {
+        nodes: false,
+        count: 5,
+        limit: 4,
+    };
+    let nodes = ConfigFault::TooMany {
+        nodes: true,
+        count: 64,
+        limit: 63,
+    };
+    let rises = ConfigFault::StrengthRises {
+        node: 1,
+        own: 256,
+        parent: 128,
+    };
+    for (fault, text) in [
+        (ConfigFault::TooLarge { limit }, "too large"),
+        (ConfigFault::BadToml, "not TOML"),
+        (top, "bad field Version at top"),
+        (source, "bad field Conditioner at source 3"),
+        (node, "bad field Unknown at node 62"),
+        (sources, "too many sources"),
+        (nodes, "too many nodes"),
+        (
+            ConfigFault::NoSuchParent { node: 1, parent: 7 },
+            "no such parent at node 1",
+        ),
+        (ConfigFault::Cycle { node: 2 }, "cycle at node 2"),
+        (ConfigFault::TooDeep { node: 9 }, "too deep at node 9"),
+        (rises, "strength rises at node 1"),
+    ] {
+        let alloc = rt.alloc();
+        let mut sink = MemSink::new(vec![in alloc; 0u8; 512]?, Vec::new(alloc));
+        let status = Status::Config(fault);
+        let line = format!(in alloc; "configuration: {text}\n")?;
+        assert_eq!(rt; status.number(), 2);
         assert_eq!(rt; status.line(&mut sink), Ok(()));
         assert_eq!(rt; sink.written(), line.as_bytes());
     }

@@ -3,7 +3,6 @@ use Rattle.std.specs.Prelude.{Option}
 use Rattle.std.proofs.lemmas.List.{length-map, map-append}
 use Rattle.tree_config.specs.declared.plan.SourcePlan.{SourcePlan}
 use Rattle.rbg_bytes.specs.declared.stream.Failed.{Failed}
-use Rattle.rbgtree.specs.Recordings.{OpensSamples}
 use Rattle.rbgtree.specs.Check.{OpensOne}
 use Rattle.rbgtree.proofs.Openings.{opens_one, LeadsFrom, leads_on, leads_all}
 use Rattle.rbgtree.proofs.check.open_all.Goals as goal

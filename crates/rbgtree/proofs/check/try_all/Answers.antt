@@ -1,4 +1,4 @@
-use Rattle.std.proofs.Common.{◌≡◌, ◌≤◌, ◌<◌, ◌+◌, List, ℕ, length, map, sym, ◌∙◌, subst, ap, arith}
+use Rattle.std.proofs.Common.{◌<◌, ◌+◌, ℕ, length, map, sym, ◌∙◌, subst, arith}
 use Rattle.std.proofs.Math.ListN.{set, length-set}
 use Rattle.rbgtree.specs.Check.{AreTriedUpTo}
 use Rattle.rbgtree.proofs.Tries.{nothing, drop_next, drop_within, tried_more, tried_all}

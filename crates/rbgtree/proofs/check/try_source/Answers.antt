@@ -2,7 +2,6 @@ use Rattle.std.proofs.Common.{◌≤◌, ◌+◌, ◌^◌, ◌∙◌, ap, subst,
 use Rattle.health_tests.specs.Numbers.{no_tail}
 use Rattle.entropy_source.specs.Views.{SourceView, opened_view, Goes, HasStarted}
 use Rattle.entropy_source.specs.declared.answers.SourceRow.{SourceRow}
-use Rattle.rbgtree.specs.Check.{row_of}
 use Rattle.rbgtree.proofs.Checking.{tried}
 use Rattle.rbgtree.proofs.check.try_source.Goals as goal
 

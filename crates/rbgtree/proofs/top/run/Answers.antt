@@ -1,4 +1,4 @@
-use Rattle.std.proofs.Common.{List, ℕ, refl, subst, map, inl, inr}
+use Rattle.std.proofs.Common.{refl, subst, map, inl, inr}
 use Rattle.std.specs.Prelude.{Option, string_bytes}
 use Rattle.rbgtree.specs.Check.{HasChecked}
 use Rattle.rbgtree.specs.Commands.{IsCommand}
