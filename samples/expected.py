@@ -1,5 +1,5 @@
 #!/usr/bin/env python3
-"""Writes seed48, frames and replies, the files of the demo, into this script's folder.
+"""Writes seed48, frames and replies, the files of the demo, and ramp, the samples of check.toml, into this script's folder.
 
 The replies are computed here from the standard alone, with Python's own HMAC, and not by the program that they test:
 HMAC_DRBG over SHA-256 (SP 800-90A Rev. 1, 10.1.2) with the first 32 seed bytes as entropy, the other 16 as nonce, and no
@@ -54,6 +54,7 @@ def main():
     drbg = HmacDrbg(seed[:32], seed[32:])
     asked = list(enumerate(COUNTS, start=1))
     folder = pathlib.Path(__file__).resolve().parent
+    (folder / "ramp").write_bytes(bytes(place % 251 for place in range(2048)))
     (folder / "seed48").write_bytes(seed)
     (folder / "frames").write_bytes(b"".join(request(*one) for one in asked))
     (folder / "replies").write_bytes(b"".join(reply(drbg, *one) for one in asked))

@@ -1,5 +1,5 @@
 -- Which answer comes, from the acts.
-use Rattle.std.proofs.Common.{◌≡◌, ◌<◌, ◌+◌, ◌-◌, ℕ, zero, suc, List, [], ◌∷◌, ◌++◌, Bool, true, false, map, length, refl, sym, ap, ◌∙◌, subst, arith, append-nil}
+use Rattle.std.proofs.Common.{◌≡◌, ◌+◌, ◌-◌, ℕ, zero, suc, List, [], ◌∷◌, ◌++◌, Bool, true, false, map, length, refl, sym, ap, ◌∙◌, subst, arith, append-nil}
 use Rattle.std.specs.Prelude.{Option, Some, None, Result, Ok, Err, MatchOption, MatchResult, sum}
 use Rattle.health_tests.specs.declared.windows.Test.{Test}
 use Rattle.health_tests.specs.declared.windows.Alarm.{Alarm}
@@ -10,8 +10,8 @@ use Rattle.health_tests.specs.Numbers.{no_tail, tail_step, tail_after, alarm_by,
 use Rattle.conditioner.specs.Conditioned.{conditioned}
 use Rattle.entropy_source.specs.declared.answers.SourceRow.{SourceRow}
 use Rattle.entropy_source.specs.declared.answers.SourceRefusal.{SourceRefusal}
-use Rattle.entropy_source.specs.declared.answers.SourceRefusal.TheVariants.{SourceFault, HealthFailed, WantOfEntropy}
-use Rattle.entropy_source.specs.Source.{SourceAct, Began, Read, Alarmed, Started, Block, SourceState, given, source_after, source_after_all, blocks_for, need_of_block}
+use Rattle.entropy_source.specs.declared.answers.SourceRefusal.TheVariants.{HealthFailed}
+use Rattle.entropy_source.specs.Source.{SourceAct, Began, Read, Alarmed, Started, Block, SourceState, source_after, source_after_all, blocks_for, need_of_block}
 use Rattle.entropy_source.specs.Draws.{Gathers, Draws, Drawn, Start, found_in}
 use Rattle.entropy_source.specs.Counted.{samples_of, gave_none, has_failed}
 use Rattle.entropy_source.specs.Outcomes.{FailsAt, WantsWhere, FaultsWhere, Outcome}

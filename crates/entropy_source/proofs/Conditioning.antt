@@ -1,8 +1,6 @@
 -- A block from its samples, and blocks one after another.
-use Rattle.std.proofs.Common.{◌≡◌, ◌≤◌, ◌<◌, ◌+◌, ◌-◌, ◌*◌, ℕ, zero, suc, List, [], ◌∷◌, ◌++◌, length, take, refl, sym, ap, ◌∙◌, subst, arith, append_assoc, append-nil, length-append, suc-mul, add-one}
-use Rattle.std.specs.Prelude.{Option, Some, None, IsSome, Result, Ok, Err}
-use Rattle.std.proofs.Math.Seq.{take-append-add}
-use Rattle.std.proofs.lemmas.List.{take_all}
+use Rattle.std.proofs.Common.{◌≡◌, ◌+◌, ℕ, suc, List, [], ◌∷◌, ◌++◌, length, refl, sym, ap, ◌∙◌, subst, arith, append_assoc, append-nil, suc-mul}
+use Rattle.std.specs.Prelude.{Option, Some, Ok, Err}
 use Rattle.health_tests.specs.declared.windows.Alarm.{Alarm}
 use Rattle.health_tests.specs.declared.numbers.Tail.{Tail}
 use Rattle.health_tests.specs.Numbers.{tail_after}
@@ -14,9 +12,9 @@ use Rattle.conditioner.specs.declared.block.Block as held
 use Rattle.entropy_source.specs.declared.answers.SourceRow.{SourceRow}
 use Rattle.entropy_source.specs.declared.answers.SourceRefusal.{SourceRefusal}
 use Rattle.entropy_source.specs.Source.{SourceAct, Block, SourceState, source_after, source_after_all, need_of_block}
-use Rattle.entropy_source.specs.Draws.{Gathers, Draws, found_in}
+use Rattle.entropy_source.specs.Draws.{Draws, found_in}
 use Rattle.entropy_source.specs.Views.{SourceView, IsStateOf, Goes, source_state}
-use Rattle.entropy_source.specs.Steps.{KeepsOn, LeavesOthers, IsLeft, Leads, Stops, Conditions, LeadsBlocks, StopsBlocks, MakesBlock, Fills}
+use Rattle.entropy_source.specs.Steps.{Leads, Stops, LeadsBlocks, StopsBlocks}
 use Rattle.entropy_source.proofs.Stands.{own_state, state_is}
 use Rattle.entropy_source.proofs.Joining.{after_append, tail_append, left_before, leads_none, leads_more, leads_stops, gathered_all}
 

@@ -1,14 +1,12 @@
 -- The state after acts in a row, counted on the acts.
-use Rattle.std.proofs.Common.{◌≡◌, ◌+◌, ℕ, List, [], ◌∷◌, ◌++◌, Bool, true, false, length, drop, refl, sym, ap, ◌∙◌, subst, arith, length-append, zero-add}
-use Rattle.std.specs.Prelude.{Option, Some, None, if◌then◌else◌}
+use Rattle.std.proofs.Common.{◌≡◌, ◌+◌, ℕ, List, [], ◌∷◌, ◌++◌, Bool, true, false, length, drop, refl, sym, ap, ◌∙◌, subst, arith, length-append}
+use Rattle.std.specs.Prelude.{Option, Some, None}
 use Rattle.std.specs.Option.{option_map}
 use Rattle.std.proofs.lemmas.List.{drop-drop}
 use Rattle.health_tests.specs.declared.numbers.Tail.{Tail}
-use Rattle.health_tests.specs.Numbers.{tail_of, no_tail, tail_after}
+use Rattle.health_tests.specs.Numbers.{tail_of, tail_after}
 use Rattle.health_tests.proofs.Counting.{tail_begins, tail_grows}
 use Rattle.entropy_source.specs.declared.answers.SourceRow.{SourceRow}
-use Rattle.entropy_source.specs.declared.answers.SourceMode.{SourceMode}
-use Rattle.entropy_source.specs.declared.answers.SourceMode.TheVariants as modes
 use Rattle.entropy_source.specs.Source.{SourceAct, Began, Read, Alarmed, Started, Block, SourceState, given, source_after, source_after_all, opened_source}
 use Rattle.entropy_source.specs.Counted.{samples_of, blocks_of, alarms_of, mode_after, tested_after, alarmed_after}
 

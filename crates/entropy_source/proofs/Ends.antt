@@ -1,9 +1,8 @@
 -- A draw from its blocks, and what is so of a source after a start and after a draw.
-use Rattle.std.proofs.Common.{◌≡◌, ◌≤◌, ◌<◌, ◌+◌, ◌*◌, ◌^◌, ℕ, List, [], ◌∷◌, ◌++◌, length, take, refl, sym, ap, ◌∙◌, subst, arith, append-nil, zero-add, zero-mul}
+use Rattle.std.proofs.Common.{◌≡◌, ◌≤◌, ◌<◌, ◌+◌, ◌*◌, ℕ, List, [], ◌∷◌, length, take, refl, sym, ap, ◌∙◌, subst, arith, append-nil, zero-add, zero-mul}
 use Rattle.std.specs.Prelude.{Option, Some, None, IsSome, IfErr, OnOk, Result, Ok, Err, MatchResult}
 use Rattle.rbg_bytes.specs.Streams.{Rose}
 use Rattle.health_tests.specs.declared.numbers.Tail.{Tail}
-use Rattle.entropy_source.specs.declared.answers.SourceRow.{SourceRow}
 use Rattle.entropy_source.specs.declared.answers.Range.{Range}
 use Rattle.entropy_source.specs.declared.answers.Cause.{Cause}
 use Rattle.entropy_source.specs.declared.answers.SourceMode.{SourceMode}

@@ -1,6 +1,6 @@
 -- Bytes that are filled block by block.
-use Rattle.std.proofs.Common.{◌≡◌, ◌≤◌, ◌<◌, ◌+◌, ◌-◌, ◌*◌, ◌/◌, ◌%◌, ℕ, zero, suc, List, [], ◌∷◌, ◌++◌, length, take, min, refl, sym, ap, ◌∙◌, subst, arith, length-append, suc-mul, add-one, zero-mul}
-use Rattle.std.specs.Prelude.{Option, Some, None, IsSome, Result, Ok, Err}
+use Rattle.std.proofs.Common.{◌≡◌, ◌≤◌, ◌<◌, ◌+◌, ◌-◌, ◌*◌, ℕ, suc, List, [], ◌++◌, length, take, refl, sym, ap, ◌∙◌, subst, arith, length-append, suc-mul, add-one, zero-mul}
+use Rattle.std.specs.Prelude.{Option}
 use Rattle.std.proofs.Math.Seq.{take-append-add, take-nil}
 use Rattle.std.proofs.Math.Nat.{mul-le-mul_right}
 use Rattle.std.proofs.lemmas.List.{take_all}
@@ -8,9 +8,8 @@ use Rattle.std.proofs.lemmas.Grind.{div_ceil_times}
 use Rattle.std.specs.Int.{div_ceil}
 use Rattle.entropy_source.specs.declared.answers.SourceRow.{SourceRow}
 use Rattle.entropy_source.specs.declared.answers.SourceRefusal.{SourceRefusal}
-use Rattle.entropy_source.specs.Source.{SourceState, need_of_block}
-use Rattle.entropy_source.specs.Views.{SourceView, IsStateOf, Goes, source_state}
-use Rattle.entropy_source.specs.Steps.{LeadsBlocks, StopsBlocks, MakesBlock, Fills}
+use Rattle.entropy_source.specs.Views.{SourceView, Goes}
+use Rattle.entropy_source.specs.Steps.{LeadsBlocks, StopsBlocks}
 use Rattle.entropy_source.proofs.Conditioning.{blocks_none, blocks_more, blocks_stop}
 
 -- n bytes of two parts, where the first has no more than n

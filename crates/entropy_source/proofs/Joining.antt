@@ -1,6 +1,6 @@
 -- Reads one after another are reads.
-use Rattle.std.proofs.Common.{◌≡◌, ◌≤◌, ◌<◌, ◌+◌, ℕ, List, [], ◌∷◌, ◌++◌, length, refl, sym, ap, ◌∙◌, subst, arith, append_assoc, append-nil, length-append}
-use Rattle.std.specs.Prelude.{Option, Some, None, IsSome, Result, Ok, Err}
+use Rattle.std.proofs.Common.{◌≡◌, ◌≤◌, ◌+◌, ℕ, List, [], ◌∷◌, ◌++◌, length, refl, sym, ap, ◌∙◌, subst, arith, append_assoc, append-nil, length-append}
+use Rattle.std.specs.Prelude.{Option, Some, None, IsSome, Ok, Err}
 use Rattle.rbg_bytes.specs.Streams.{Rose}
 use Rattle.health_tests.specs.declared.numbers.Tail.{Tail}
 use Rattle.health_tests.specs.Numbers.{tail_step, tail_after}
@@ -9,9 +9,9 @@ use Rattle.entropy_source.specs.declared.answers.SourceRefusal.{SourceRefusal}
 use Rattle.entropy_source.specs.declared.answers.SourceRefusal.TheVariants.{SourceSpent, InError, SourceFault, HealthFailed, WantOfEntropy}
 use Rattle.entropy_source.specs.Source.{SourceAct, SourceState, source_after, source_after_all}
 use Rattle.entropy_source.specs.Draws.{Gathers, found_in}
-use Rattle.entropy_source.specs.Views.{SourceView, IsStateOf, Goes, source_state}
+use Rattle.entropy_source.specs.Views.{SourceView, Goes, source_state}
 use Rattle.entropy_source.proofs.Stands.{own_state}
-use Rattle.entropy_source.specs.Steps.{KeepsOn, LeavesOthers, IsLeft, Leads, Stops}
+use Rattle.entropy_source.specs.Steps.{IsLeft, Leads, Stops}
 
 -- the state after two rows of acts
 pub after_append : (row : SourceRow) (s : SourceState) (xs ys : List SourceAct) → source_after_all row s (xs ++ ys) ≡ source_after_all row (source_after_all row s xs) ys

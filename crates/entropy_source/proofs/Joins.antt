@@ -1,5 +1,5 @@
 -- Two draws one after another are one draw.
-use Rattle.std.proofs.Common.{◌≡◌, ◌+◌, ◌-◌, ℕ, zero, suc, List, [], ◌∷◌, ◌++◌, map, length, refl, sym, ap, ◌∙◌, subst, arith, append_assoc, append-nil, zero-add, suc-add}
+use Rattle.std.proofs.Common.{◌≡◌, ◌+◌, ◌-◌, ℕ, zero, suc, List, [], ◌∷◌, ◌++◌, length, refl, sym, ap, ◌∙◌, subst, append_assoc, append-nil, zero-add, suc-add}
 use Rattle.std.specs.Prelude.{Option, Some, None, Result, Ok, Err, MatchOption, MatchResult}
 use Rattle.std.specs.Option.{option_map}
 use Rattle.std.proofs.Math.Path.{fun_ext}
@@ -9,7 +9,7 @@ use Rattle.health_tests.specs.Numbers.{tail_after, alarm_from}
 use Rattle.conditioner.specs.Conditioned.{conditioned}
 use Rattle.entropy_source.specs.declared.answers.SourceRow.{SourceRow}
 use Rattle.entropy_source.specs.declared.answers.SourceRefusal.{SourceRefusal}
-use Rattle.entropy_source.specs.declared.answers.SourceRefusal.TheVariants.{SourceFault, HealthFailed, WantOfEntropy}
+use Rattle.entropy_source.specs.declared.answers.SourceRefusal.TheVariants.{HealthFailed}
 use Rattle.entropy_source.specs.Source.{SourceAct, Began, Read, Alarmed, Started, Block, SourceState, given, source_after, source_after_all, need_of_block}
 use Rattle.entropy_source.specs.Draws.{Gathers, Draws, found_in}
 use Rattle.entropy_source.specs.Counted.{samples_of, behind}

@@ -1,10 +1,9 @@
 -- One read for a block or the start-up, in each way that it may end.
-use Rattle.std.proofs.Common.{◌≡◌, ◌≤◌, ◌<◌, ◌+◌, ◌-◌, ℕ, List, [], ◌∷◌, ◌++◌, length, take, min, refl, sym, ap, ◌∙◌, subst, arith}
-use Rattle.std.specs.Prelude.{Option, Some, None, IfSome, IsSome, Result, Ok, Err, MatchOption}
+use Rattle.std.proofs.Common.{◌≡◌, ◌≤◌, ◌<◌, ◌+◌, ◌-◌, ℕ, List, [], ◌∷◌, ◌++◌, length, min, refl, sym, ap, ◌∙◌, subst, arith}
+use Rattle.std.specs.Prelude.{Option, Some, None, IfSome, IsSome, Result, Err, MatchOption}
 use Rattle.std.specs.Option.{option_map}
 use Rattle.std.specs.Io.KnownBytes.{Keeps, Consumes, IsAtEnd}
 use Rattle.rbg_bytes.specs.Streams.{Rose}
-use Rattle.health_tests.specs.declared.windows.Test.{Test}
 use Rattle.health_tests.specs.declared.windows.Alarm.{Alarm}
 use Rattle.health_tests.specs.declared.numbers.Tail.{Tail}
 use Rattle.health_tests.specs.Cutoffs.{Limits}
@@ -15,11 +14,11 @@ use Rattle.entropy_source.specs.declared.answers.SourceMode.{SourceMode}
 use Rattle.entropy_source.specs.declared.answers.SourceMode.TheVariants as modes
 use Rattle.entropy_source.specs.declared.answers.SourceRefusal.{SourceRefusal}
 use Rattle.entropy_source.specs.declared.answers.SourceRefusal.TheVariants.{SourceFault, HealthFailed, WantOfEntropy}
-use Rattle.entropy_source.specs.Source.{SourceAct, SourceState, Read, Alarmed, given, source_after, source_after_all}
+use Rattle.entropy_source.specs.Source.{SourceAct, SourceState, Read, Alarmed, source_after}
 use Rattle.entropy_source.specs.Draws.{AreNext, Answers, Gathers, found_in}
 use Rattle.entropy_source.specs.Views.{SourceView, IsStateOf, Goes, kept_tail}
-use Rattle.entropy_source.specs.Steps.{KeepsOn, LeavesOthers, IsLeft, Leads, Stops}
-use Rattle.entropy_source.proofs.Stands.{are_next, told_after, kept, kept_some, read_stands, state_is, moved}
+use Rattle.entropy_source.specs.Steps.{Leads, Stops}
+use Rattle.entropy_source.proofs.Stands.{are_next, kept, kept_some, read_stands, state_is, moved}
 
 some_same : {t u : Tail} → Some t ≡ Some u → t ≡ u
 some_same h = cc

@@ -1,21 +1,18 @@
 -- A start, from its reads.
-use Rattle.std.proofs.Common.{◌≡◌, ◌≤◌, ◌+◌, ℕ, List, [], ◌∷◌, ◌++◌, length, refl, sym, ap, ◌∙◌, subst, arith, append-nil}
-use Rattle.std.specs.Prelude.{Option, Some, None, Result, Ok, Err}
+use Rattle.std.proofs.Common.{◌≡◌, ℕ, List, [], ◌∷◌, ◌++◌, refl, sym, ap, ◌∙◌, subst, arith, append-nil}
+use Rattle.std.specs.Prelude.{Option, Some, Ok, Err}
 use Rattle.std.proofs.Math.Path.{fun_ext}
-use Rattle.health_tests.specs.declared.windows.Alarm.{Alarm}
-use Rattle.health_tests.specs.declared.numbers.Tail.{Tail}
 use Rattle.health_tests.specs.Cutoffs.{Limits}
 use Rattle.health_tests.specs.Windows.{alarm_in}
 use Rattle.health_tests.specs.Numbers.{tail_of, no_tail, tail_after, alarm_from}
 use Rattle.health_tests.proofs.Counting.{tail_begins, tail_grows}
 use Rattle.health_tests.proofs.Alarms.{alarm_tells}
-use Rattle.entropy_source.specs.declared.answers.SourceRow.{SourceRow}
 use Rattle.entropy_source.specs.declared.answers.SourceMode.TheVariants as modes
 use Rattle.entropy_source.specs.declared.answers.SourceRefusal.{SourceRefusal}
-use Rattle.entropy_source.specs.Source.{SourceAct, Began, Started, SourceState, source_after, source_after_all}
+use Rattle.entropy_source.specs.Source.{Began, Started, SourceState, source_after}
 use Rattle.entropy_source.specs.Draws.{Gathers, found_in}
 use Rattle.entropy_source.specs.Views.{SourceView, IsStateOf, Goes, HasStarted}
-use Rattle.entropy_source.specs.Steps.{IsLeft, Leads, Stops, WarmsUp, EndsStart}
+use Rattle.entropy_source.specs.Steps.{Leads, Stops, EndsStart}
 use Rattle.entropy_source.proofs.Joining.{after_append, gathered_all}
 use Rattle.entropy_source.proofs.Stands.{state_is}
 

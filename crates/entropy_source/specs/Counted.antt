@@ -1,7 +1,7 @@
 -- What is counted on acts in a row: the samples that they read, the blocks, the alarms, the mode in which they leave a source,
 -- and the samples since the tests were fresh.
 -- This project's own.
-use Rattle.std.specs.Prelude.{ℕ, ◌+◌, List, [], ◌∷◌, ◌++◌, Bool, true, false, Option, Some, None, Result, Ok, Err}
+use Rattle.std.specs.Prelude.{ℕ, ◌+◌, List, [], ◌∷◌, ◌++◌, Bool, true, false, Some, None, Result, Ok, Err}
 use Rattle.entropy_source.specs.Source.{SourceAct, Began, Read, Alarmed, Started, Block, given}
 use Rattle.entropy_source.specs.declared.answers.SourceRefusal.{SourceRefusal}
 use Rattle.entropy_source.specs.declared.answers.SourceMode.{SourceMode}

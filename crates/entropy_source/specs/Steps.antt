@@ -1,7 +1,7 @@
 -- Parts of a start and of a draw: some reads for one block or for the start-up, and some blocks in a row. Each says what the
 -- whole is, whatever follows the part.
 -- This project's own.
-use Rattle.std.specs.Prelude.{◌≡◌, ◌<◌, ◌≤◌, ℕ, zero, suc, ◌+◌, ◌-◌, ◌*◌, List, [], ◌∷◌, ◌++◌, length, take, Option, Some, None, Result, Ok, Err, MatchResult}
+use Rattle.std.specs.Prelude.{◌≡◌, ◌<◌, ◌≤◌, ℕ, suc, ◌+◌, ◌*◌, List, [], ◌∷◌, ◌++◌, length, take, Some, Result, Err, MatchResult}
 use Rattle.health_tests.specs.declared.numbers.Tail.{Tail}
 use Rattle.health_tests.specs.Numbers.{tail_after}
 use Rattle.conditioner.specs.Conditioned.{conditioned}

@@ -1,8 +1,8 @@
-use Rattle.std.proofs.Common.{◌≡◌, ◌≤◌, ◌+◌, ◌-◌, ℕ, take, length, refl, sym, ap, ◌∙◌, arith}
+use Rattle.std.proofs.Common.{◌+◌, ◌-◌, take, refl, ap, ◌∙◌, arith}
 use Rattle.entropy_source.specs.Source.{need_of_block}
 use Rattle.entropy_source.specs.Views.{SourceView}
 use Rattle.entropy_source.proofs.Joining.{read_facts, same_blocks}
-use Rattle.entropy_source.proofs.Conditioning.{held_none, held_more, held_stops, held_all}
+use Rattle.entropy_source.proofs.Conditioning.{held_none, held_more, held_stops}
 use Rattle.entropy_source.proofs.intake.Intake.condition.Goals as goal
 
 pub loop-lacks-init : goal.loop-lacks-init

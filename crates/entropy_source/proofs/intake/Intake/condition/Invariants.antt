@@ -1,4 +1,4 @@
-use Rattle.std.proofs.Common.{◌≡◌, ◌≤◌, ◌+◌, ◌^◌, ℕ, List}
+use Rattle.std.proofs.Common.{◌≡◌, ◌+◌, ℕ, List}
 use Rattle.std.specs.Prelude.{IsSome}
 use Rattle.conditioner.specs.Holds.{HoldsSamples}
 use Rattle.entropy_source.specs.Source.{need_of_block}

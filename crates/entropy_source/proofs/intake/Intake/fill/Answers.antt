@@ -4,10 +4,10 @@ use Rattle.std.specs.Int.{div_ceil}
 use Rattle.rbg_bytes.specs.declared.cond.Cond.{Cond}
 use Rattle.conditioner.specs.Conditioned.{block_len}
 use Rattle.entropy_source.specs.declared.answers.SourceRow.{SourceRow}
-use Rattle.entropy_source.specs.Source.{need_of_block, blocks_for}
+use Rattle.entropy_source.specs.Source.{need_of_block}
 use Rattle.entropy_source.specs.Views.{SourceView, Goes}
 use Rattle.entropy_source.specs.Steps.{StopsBlocks}
-use Rattle.entropy_source.proofs.Filling.{filled_none, filled_more, filled_stops, filled_all, within, enough}
+use Rattle.entropy_source.proofs.Filling.{filled_none, filled_more, filled_stops, within}
 use Rattle.entropy_source.proofs.intake.Intake.fill.Goals as goal
 
 pub loop-i-init : goal.loop-i-init

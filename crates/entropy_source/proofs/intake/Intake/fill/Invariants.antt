@@ -1,4 +1,4 @@
-use Rattle.std.proofs.Common.{◌≡◌, ◌≤◌, ◌+◌, ◌*◌, ℕ, length}
+use Rattle.std.proofs.Common.{◌≡◌, ◌+◌, ◌*◌}
 use Rattle.std.specs.Prelude.{IsSome}
 use Rattle.entropy_source.specs.Source.{need_of_block}
 use Rattle.entropy_source.proofs.Filling.{Filled}

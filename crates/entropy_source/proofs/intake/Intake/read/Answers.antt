@@ -1,8 +1,7 @@
-use Rattle.std.proofs.Common.{◌≡◌, ◌<◌, ◌≤◌, ◌-◌, ℕ, [], length, take, min, refl, sym, ap, ◌∙◌, subst, arith}
-use Rattle.entropy_source.specs.declared.answers.SourceRefusal.TheVariants.{SourceFault, HealthFailed, WantOfEntropy}
-use Rattle.entropy_source.specs.Views.{SourceView, Goes}
-use Rattle.entropy_source.specs.Steps.{Stops, Leads}
-use Rattle.entropy_source.proofs.Stands.{kept_some, moved}
+use Rattle.std.proofs.Common.{◌≡◌, [], take, refl, arith}
+use Rattle.entropy_source.specs.declared.answers.SourceRefusal.TheVariants.{SourceFault, WantOfEntropy}
+use Rattle.entropy_source.specs.Steps.{Stops}
+use Rattle.entropy_source.proofs.Stands.{moved}
 use Rattle.entropy_source.proofs.Reading.{failed, ended, quiet_read, alarm_read}
 use Rattle.entropy_source.proofs.intake.Intake.read.Goals as goal
 

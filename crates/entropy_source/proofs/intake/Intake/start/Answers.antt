@@ -1,4 +1,3 @@
-use Rattle.std.proofs.Common.{◌≡◌}
 use Rattle.entropy_source.proofs.Starts.{start_stops, start_passed}
 use Rattle.entropy_source.proofs.intake.Intake.start.Goals as goal
 

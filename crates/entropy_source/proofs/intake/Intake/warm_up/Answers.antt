@@ -1,4 +1,4 @@
-use Rattle.std.proofs.Common.{◌≡◌, ◌≤◌, ◌+◌, ◌-◌, ℕ, take, length, refl, sym, ap, ◌∙◌, arith, length-take}
+use Rattle.std.proofs.Common.{◌-◌, take, refl, ap, ◌∙◌, arith}
 use Rattle.entropy_source.specs.Views.{SourceView}
 use Rattle.entropy_source.proofs.Joining.{left_none, left_more, left_stops, read_facts}
 use Rattle.entropy_source.proofs.intake.Intake.warm_up.Goals as goal

@@ -1,6 +1,5 @@
-use Rattle.std.proofs.Common.{◌≡◌, ◌≤◌, ◌+◌, ◌^◌, ℕ, List, length}
+use Rattle.std.proofs.Common.{◌≡◌, ◌≤◌, ◌+◌, ◌^◌, ℕ, List}
 use Rattle.std.specs.Prelude.{IsSome}
-use Rattle.entropy_source.specs.Source.{SourceState}
 use Rattle.entropy_source.specs.Views.{Goes}
 use Rattle.entropy_source.specs.Steps.{Leads}
 use Rattle.entropy_source.proofs.intake.Intake.warm_up.Given as goal
