@@ -1,5 +1,5 @@
 // What the words ask for, and the work that is timed.
-ghost use Rattle.std.specs.Prelude.{◌≡◌, ◌≤◌, IfSome, replicate};
+ghost use Rattle.std.specs.Prelude.{◌≡◌, ◌≤◌, ◌∷◌, [], ℕ, map, decimal, string_bytes, Some, IfSome, replicate};
 ghost use Rattle.aes_bench.specs.Iterated.{iterated, counting_key};
 
 use aes_core::Aes;
@@ -11,13 +11,19 @@ const KEY: [u8; 16] = [
 
 // How many times, where there is one word, from 1 to 100,000,000.
 pub fn read_times(words: &[String]) -> Option<u32>
-    ensures { IfSome result (λ times. (1 ≤ times) × (times ≤ 100000000)) }
+    ensures range { IfSome result (λ times. (1 ≤ times) × (times ≤ 100000000)) }
+
+    // A number in decimal, within this range, is read as it is.
+    ensures read { (times : ℕ) → map string_bytes words.now ≡ decimal times ∷ [] → 1 ≤ times → times ≤ 100000000 → result ≡ Some times }
 {
     let [times] = words else {
         return None;
     };
     let times = times.as_str().parse::<u32>().ok()?;
-    if times < 1 || times > 100_000_000 {
+    if times < 1 {
+        return None;
+    }
+    if times > 100_000_000 {
         return None;
     }
     Some(times)

@@ -1,5 +1,8 @@
 // What the words ask for.
-ghost use Rattle.std.specs.Prelude.{◌≤◌, IfSome};
+ghost use Rattle.std.specs.Prelude.{◌≡◌, ◌≤◌, ◌∷◌, [], ℕ, List, map, codes, decimal, string_bytes, Some, IfSome};
+ghost use Rattle.health_bench.specs.Words.{name_of};
+ghost use Rattle.health_bench.specs.declared.job.Form.{Form};
+ghost use Rattle.health_bench.specs.declared.job.Job.{Job};
 
 // How the tests get the samples: one a call, or all in one call.
 #[derive(Clone, Copy)]
@@ -17,7 +20,9 @@ pub struct Job {
 }
 
 // The form that a word names.
-fn form_named(word: &str) -> Option<Form> {
+fn form_named(word: &str) -> Option<Form>
+    ensures { (form : Form) → word.now ≡ name_of form → result ≡ Some form }
+{
     match word {
         "step" => Some(Form::Step),
         "slice" => Some(Form::Slice),
@@ -29,21 +34,38 @@ fn form_named(word: &str) -> Option<Form> {
 pub fn read_job(words: &[String]) -> Option<Job>
     ensures samples { IfSome result (λ job. (1 ≤ job.samples) × (job.samples ≤ 16777216)) }
     ensures times { IfSome result (λ job. (1 ≤ job.times) × (job.times ≤ 1000000)) }
+
+    // A form and numbers in decimal, within these ranges, are read as they are.
+    ensures read { (form : Form) (samples times : ℕ) → map string_bytes words.now ≡ name_of form ∷ decimal samples ∷ decimal times ∷ [] →
+        1 ≤ samples → samples ≤ 16777216 → 1 ≤ times → times ≤ 1000000 →
+        result ≡ Some (record { form = form; samples = samples; times = times }) }
 {
     let [form, samples, times] = words else {
         return None;
     };
     let form = form_named(form.as_str())?;
-    let samples = samples.as_str().parse::<usize>().ok()?;
-    let times = times.as_str().parse::<u32>().ok()?;
-    if samples < 1 || samples > 16_777_216 || times < 1 || times > 1_000_000 {
-        return None;
-    }
+    let samples = number(samples.as_str(), 1, 16_777_216)?;
+    let times = number(times.as_str(), 1, 1_000_000)?;
     Some(Job {
         form,
-        samples,
-        times,
+        samples: samples as usize,
+        times: times as u32,
     })
+}
+
+// The number that a word writes in decimal, where it is in this range.
+fn number(word: &str, least: u64, most: u64) -> Option<u64>
+    ensures read { (n : ℕ) → least ≤ n → n ≤ most → word.now ≡ decimal n → result ≡ Some n }
+    ensures range { IfSome result (λ n. (least ≤ n) × (n ≤ most)) }
+{
+    let number = word.parse::<u64>().ok()?;
+    if number < least {
+        return None;
+    }
+    if number > most {
+        return None;
+    }
+    Some(number)
 }
 
 #[cfg(test)]
