@@ -1,7 +1,7 @@
 /* The peer of bench/health: both continuous health tests of SP 800-90B 4.4 over pseudo-random samples.
  *
  *   health_peer plain SAMPLES TIMES   the tests in a structure, with a function that takes one sample, as they are mostly written
- *   health_peer fast SAMPLES TIMES    the tests' numbers in local variables of one loop, which compiles to the fastest code
+ *   health_peer fast SAMPLES TIMES    the tests' numbers in local variables of one loop
  *
  * Both do the work of health_bench, with the same line on standard output.
  */
