@@ -1,5 +1,5 @@
 // Recorded samples that come in pieces and fail where they are told to.
-ghost use Rattle.std.specs.Prelude.{◌≡◌, ◌≤◌, ◌<◌, ◌↔◌, length, min, Some, Contains, IsErr, IfOk, OnErr};
+ghost use Rattle.std.specs.Prelude.{◌≡◌, ◌≤◌, ◌<◌, ◌↔◌, length, min, Some, None, Contains, IsErr, IfOk, OnErr};
 ghost use Rattle.std.specs.Io.{ReadsAtMost};
 ghost use Rattle.std.specs.Io.KnownBytes.{ReadConsumes};
 ghost use Rattle.rbg_bytes.specs.Streams.{HasCause};
@@ -45,6 +45,7 @@ impl Samples for Faulty {
         requires { 0 < length buf.old }
         ensures bound { ReadsAtMost result buf.new }
         ensures samples { ReadConsumes (Some self.old.left) (Some self.new.left) result buf.new }
+        ensures untold { Some self.old.left ≡ None → Some self.new.left ≡ None }
         ensures cause { HasCause self.old.faults self.new.faults result }
         ensures failed { IsErr result ↔ Contains self.old.fail self.old.calls }
         ensures count { IfOk result (λ n. n ≡ min (min (length buf.old) self.old.piece) (length self.old.left)) }

@@ -1,5 +1,5 @@
 // Samples that were recorded.
-ghost use Rattle.std.specs.Prelude.{◌≡◌, ◌≤◌, ◌<◌, length, take, drop, min, Some, Ok};
+ghost use Rattle.std.specs.Prelude.{◌≡◌, ◌≤◌, ◌<◌, length, take, drop, min, Some, None, Ok};
 ghost use Rattle.std.specs.Io.{ReadsAtMost};
 ghost use Rattle.std.specs.Io.KnownBytes.{ReadConsumes};
 ghost use Rattle.rbg_bytes.specs.Streams.{HasCause};
@@ -44,6 +44,7 @@ impl Samples for Recorded {
         requires { 0 < length buf.old }
         ensures bound { ReadsAtMost result buf.new }
         ensures samples { ReadConsumes (Some self.old) (Some self.new) result buf.new }
+        ensures untold { Some self.old ≡ None → Some self.new ≡ None }
         ensures cause { HasCause 0 0 result }
         ensures count { result ≡ Ok (min (length buf.old) (length self.old)) }
         ensures left { self.new ≡ drop (min (length buf.old) (length self.old)) self.old }

@@ -1,5 +1,5 @@
 // What is asked of the outside where samples come from.
-ghost use Rattle.std.specs.Prelude.{◌≡◌, ◌<◌, List, ℕ, length};
+ghost use Rattle.std.specs.Prelude.{◌≡◌, ◌<◌, List, ℕ, length, None};
 ghost use Rattle.std.specs.declared.option.Option.{Option};
 ghost use Rattle.std.specs.Io.{ReadsAtMost};
 ghost use Rattle.std.specs.Io.KnownBytes.{ReadConsumes};
@@ -16,11 +16,13 @@ pub trait Samples: Drop {
     ghost faults: { Self → ℕ };
 
     /// Puts the next samples, as many as it likes, at the front of a buffer that isn't empty, and says how many. None is the
-    /// end, and comes only there where the source tells its samples. After `Failed` nothing was taken.
+    /// end, and comes only there where the source tells its samples. A source that doesn't tell them never begins to. After
+    /// `Failed` nothing was taken.
     fn read(&mut self, buf: &mut [u8]) -> Result<usize, Failed>
         requires { 0 < length buf.old }
         ensures bound { ReadsAtMost result buf.new }
         ensures samples { ReadConsumes (told self.old) (told self.new) result buf.new }
+        ensures untold { told self.old ≡ None → told self.new ≡ None }
         ensures cause { HasCause (faults self.old) (faults self.new) result };
 
     /// How often the source has failed, up to 2^64 - 1.
