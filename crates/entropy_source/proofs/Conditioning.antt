@@ -13,51 +13,44 @@ use Rattle.entropy_source.specs.declared.answers.SourceRow.{SourceRow}
 use Rattle.entropy_source.specs.declared.answers.SourceRefusal.{SourceRefusal}
 use Rattle.entropy_source.specs.Source.{SourceAct, Block, SourceState, source_after, source_after_all, need_of_block}
 use Rattle.entropy_source.specs.Draws.{Draws, found_in}
-use Rattle.entropy_source.specs.Views.{SourceView, IsStateOf, Goes, source_state}
+use Rattle.entropy_source.specs.Views.{SourceView, source_state}
 use Rattle.entropy_source.specs.Steps.{Leads, Stops, LeadsBlocks, StopsBlocks}
-use Rattle.entropy_source.proofs.Stands.{own_state, state_is}
 use Rattle.entropy_source.proofs.Joining.{after_append, tail_append, left_before, leads_none, leads_more, leads_stops, gathered_all}
 
 -- The samples of one block, as they are pushed into it.
-module _ {S : Type 0} (told : S → Option (List ℕ)) (faults : S → ℕ) (row : SourceRow) where
-  abbrev pub Held : SourceView S → SourceView S → held.Block → ℕ → Type 0
-  Held v w block left = Goes told faults v w (λ s now. (got : List ℕ) × Leads row s now (need_of_block row) left got × HoldsSamples block row.cond (need_of_block row) got)
+module _ (row : SourceRow) (s : SourceState) where
+  abbrev pub Held : SourceState → held.Block → ℕ → Type 0
+  Held now block left = (got : List ℕ) × Leads row s now (need_of_block row) left got × HoldsSamples block row.cond (need_of_block row) got
 
-  pub held_none : (v : SourceView S) (block : held.Block) (cond : Cond) (total : ℕ) → cond ≡ row.cond → total ≡ need_of_block row
-      → HoldsSamples block cond total [] → Held v v block total
-  held_none v block cond total c n h s st = (
-    s,
-    st,
-    (
-      [],
-      subst (λ k. Leads row s s (need_of_block row) k []) (sym n) (leads_none row s (need_of_block row)),
-      subst (λ k. HoldsSamples block row.cond k []) n (subst (λ z. HoldsSamples block z total []) c h),
-    ),
+  pub held_none : (block : held.Block) (cond : Cond) (total : ℕ) → cond ≡ row.cond → total ≡ need_of_block row
+      → HoldsSamples block cond total [] → Held s block total
+  held_none block cond total c n h = (
+    [],
+    subst (λ k. Leads row s s (need_of_block row) k []) (sym n) (leads_none row s (need_of_block row)),
+    subst (λ k. HoldsSamples block row.cond k []) n (subst (λ z. HoldsSamples block z total []) c h),
   )
 
-  pub held_more : (v m w : SourceView S) (block next : held.Block) (left rest : ℕ) (more : List ℕ) → Held v m block left → m.row ≡ row
-      → Goes told faults m w (λ s now. Leads m.row s now left rest more)
-      → ((got : List ℕ) → HoldsSamples block row.cond (need_of_block row) got → HoldsSamples next row.cond (need_of_block row) (got ++ more))
-      → Held v w next rest
-  held_more v m w block next left rest more a is b push s st =
-      let (mid, mid_stands, (got, first, holds)) = a s st in
-      let (now, stands, second) = b mid mid_stands in
-      (now, stands, (got ++ more, leads_more row s mid now (need_of_block row) left got first rest more (subst (λ r. Leads r mid now left rest more) is second), push got holds))
+  module _ (mid now : SourceState) (here : SourceRow) (is : here ≡ row) (block : held.Block) (left : ℕ) where
+    pub held_more : (next : held.Block) (rest : ℕ) (more : List ℕ) → Held mid block left → Leads here mid now left rest more
+        → ((got : List ℕ) → HoldsSamples block row.cond (need_of_block row) got → HoldsSamples next row.cond (need_of_block row) (got ++ more))
+        → Held now next rest
+    held_more next rest more (got, first, holds) second push =
+        (got ++ more, leads_more row s mid now (need_of_block row) left got first rest more (subst (λ r. Leads r mid now left rest more) is second), push got holds)
 
-  pub held_stops : (v m w : SourceView S) (block : held.Block) (left : ℕ) (why : SourceRefusal) → Held v m block left → m.row ≡ row
-      → Goes told faults m w (λ s now. Stops m.row s now left why) → Goes told faults v w (λ s now. Stops row s now (need_of_block row) why)
-  held_stops v m w block left why a is b s st =
-      let (mid, mid_stands, (got, first, holds)) = a s st in
-      let (now, stands, second) = b mid mid_stands in
-      (now, stands, leads_stops row s mid now (need_of_block row) left got first why (subst (λ r. Stops r mid now left why) is second))
+    pub held_stops : (why : SourceRefusal) → Held mid block left → Stops here mid now left why → Stops row s now (need_of_block row) why
+    held_stops why (got, first, holds) second = leads_stops row s mid now (need_of_block row) left got first why (subst (λ r. Stops r mid now left why) is second)
 
-  pub held_all : (v w : SourceView S) (block : held.Block) (left : ℕ) (bytes : List ℕ) → left ≡ 0 → Held v w block left
+  pub held_all : (now : SourceState) (block : held.Block) (left : ℕ) (bytes : List ℕ) → left ≡ 0 → Held now block left
       → ((got : List ℕ) → HoldsSamples block row.cond (need_of_block row) got → length got ≡ need_of_block row → bytes ≡ conditioned row.cond got)
-      → Goes told faults v w (λ s now. (got : List ℕ) × Leads row s now (need_of_block row) 0 got × (bytes ≡ conditioned row.cond got))
-  held_all v w block left bytes none a done s st =
-      let (now, stands, (got, leads, holds)) = a s st in
+      → (got : List ℕ) × Leads row s now (need_of_block row) 0 got × (bytes ≡ conditioned row.cond got)
+  held_all now block left bytes none (got, leads, holds) done =
       let count : length got ≡ need_of_block row = omega (arith, leads.count) in
-      (now, stands, (got, subst (λ k. Leads row s now (need_of_block row) k got) none leads, done got holds count))
+      (got, subst (λ k. Leads row s now (need_of_block row) k got) none leads, done got holds count)
+
+-- the length of a block
+pub made_len : (row : SourceRow) (s now : SourceState) (bytes : List ℕ)
+    → (got : List ℕ) × Leads row s now (need_of_block row) 0 got × (bytes ≡ conditioned row.cond got) → length bytes ≡ block_len row.cond
+made_len row s now bytes (got, leads, block) = ap (length {A = ℕ}) block ∙ length-conditioned row.cond got
 
 -- Blocks one after another.
 module _ (row : SourceRow) (s : SourceState) where
@@ -153,29 +146,7 @@ module _ (row : SourceRow) (s : SourceState) where
 -- The same of a source.
 module _ {S : Type 0} (told : S → Option (List ℕ)) (faults : S → ℕ) where
   pub makes : (v m w : SourceView S) (bytes : List ℕ) → w ≡ record m { blocks = m.blocks + 1 }
-      → Goes told faults v m (λ s now. (got : List ℕ) × Leads v.row s now (need_of_block v.row) 0 got × (bytes ≡ conditioned v.row.cond got))
-      → Goes told faults v w (λ s now. (left : ℕ) → LeadsBlocks v.row s now (suc left) left bytes)
-  makes v m w bytes is h s st =
-      let (now, stands, (got, leads, block)) = h s st in (
-        record now { blocks = now.blocks + 1 },
-        subst (λ (z : SourceView S). IsStateOf told faults z (record now { blocks = now.blocks + 1 })) (sym is) (record {
-          own =
-              state_is (record now { blocks = now.blocks + 1 }) m.taken (m.blocks + 1) m.alarms m.mode m.tail (faults m.samples)
-              (ap (λ (z : SourceState). z.taken) stands.own) (ap (λ (z : SourceState). z.blocks + 1) stands.own) (ap (λ (z : SourceState). z.alarms) stands.own)
-              (ap (λ (z : SourceState). z.mode) stands.own) (ap (λ (z : SourceState). z.tail) stands.own) (ap (λ (z : SourceState). z.faults) stands.own);
-          tells = stands.tells;
-        }),
-        λ left. one_block v.row s now got bytes leads block (record now { blocks = now.blocks + 1 }) refl left,
-      )
-
-  pub makes_none : (v w : SourceView S) (why : SourceRefusal) → Goes told faults v w (λ s now. Stops v.row s now (need_of_block v.row) why)
-      → Goes told faults v w (λ s now. (left : ℕ) → StopsBlocks v.row s now (suc left) why)
-  makes_none v w why h s st = let (now, stands, x) = h s st in (now, stands, λ left. one_stop v.row s now why x left)
-
-  -- its length
-  pub made_len : (v m : SourceView S) (bytes : List ℕ)
-      → Goes told faults v m (λ s now. (got : List ℕ) × Leads v.row s now (need_of_block v.row) 0 got × (bytes ≡ conditioned v.row.cond got))
-      → length bytes ≡ block_len v.row.cond
-  made_len v m bytes h =
-      let (now, stands, (got, leads, block)) = h (source_state told faults v) (own_state told faults v) in
-      ap (length {A = ℕ}) block ∙ length-conditioned v.row.cond got
+      → (got : List ℕ) × Leads v.row (source_state told faults v) (source_state told faults m) (need_of_block v.row) 0 got × (bytes ≡ conditioned v.row.cond got)
+      → (left : ℕ) → LeadsBlocks v.row (source_state told faults v) (source_state told faults w) (suc left) left bytes
+  makes v m w bytes is (got, leads, block) left =
+      one_block v.row (source_state told faults v) (source_state told faults m) got bytes leads block (source_state told faults w) (ap (source_state told faults) is) left

@@ -3,6 +3,8 @@ use Rattle.std.proofs.Common.{◌≡◌, ◌≤◌, ◌<◌, ◌+◌, ◌*◌, �
 use Rattle.std.specs.Prelude.{Option, Some, None, IsSome, IfErr, OnOk, Result, Ok, Err, MatchResult}
 use Rattle.rbg_bytes.specs.Streams.{Rose}
 use Rattle.health_tests.specs.declared.numbers.Tail.{Tail}
+use Rattle.health_tests.specs.Numbers.{alarm_from}
+use Rattle.entropy_source.specs.declared.answers.SourceRow.{SourceRow}
 use Rattle.entropy_source.specs.declared.answers.Range.{Range}
 use Rattle.entropy_source.specs.declared.answers.Cause.{Cause}
 use Rattle.entropy_source.specs.declared.answers.SourceMode.{SourceMode}
@@ -10,68 +12,64 @@ use Rattle.entropy_source.specs.declared.answers.SourceMode.TheVariants as modes
 use Rattle.entropy_source.specs.declared.answers.SourceRefusal.{SourceRefusal}
 use Rattle.entropy_source.specs.declared.answers.SourceRefusal.TheVariants.{SourceSpent, InError, SourceFault, HealthFailed, WantOfEntropy}
 use Rattle.entropy_source.specs.Source.{SourceAct, Began, SourceState, source_after, blocks_for, need_of, need_of_block}
-use Rattle.entropy_source.specs.Draws.{Draws, found_in}
-use Rattle.entropy_source.specs.Views.{SourceView, IsStateOf, Goes, source_state, HasStarted, HasDrawn, error_of}
+use Rattle.entropy_source.specs.Draws.{Draws, Drawn, found_in}
+use Rattle.entropy_source.specs.Counted.{samples_of, lacking_after}
+use Rattle.entropy_source.specs.Outcomes.{Outcome}
+use Rattle.entropy_source.specs.Views.{SourceView, source_state, HasDrawn, error_of}
 use Rattle.entropy_source.specs.Causes.{IfSpent, IfInError, IfFault, IfHealthFailed, IfWant}
 use Rattle.entropy_source.specs.Steps.{IsLeft, LeadsBlocks, StopsBlocks, EndsStart, EndsDraw}
-use Rattle.entropy_source.proofs.Stands.{own_state}
+use Rattle.entropy_source.proofs.Answering.{drawn_ends}
 
-module _ {S : Type 0} (told : S → Option (List ℕ)) (faults : S → ℕ) (v w : SourceView S) (n : ℕ) (out : List ℕ) where
+module _ (row : SourceRow) (n : ℕ) (s now : SourceState) (some : IsSome s.tail) where
   -- the blocks of one want
-  one_want : 0 + blocks_for v.row n ≡ blocks_for v.row n
-  one_want = zero-add (blocks_for v.row n)
+  one_want : 0 + blocks_for row n ≡ blocks_for row n
+  one_want = zero-add (blocks_for row n)
 
-  found_of : (s : SourceState) → IsSome s.tail → (acts : List SourceAct) (end : Result (List ℕ) SourceRefusal)
-      → ((t : Tail) → s.tail ≡ Some t → Draws v.row (found_in v.row.cutoffs (Some t)) (blocks_for v.row n) s [] [] acts end)
-      → Draws v.row (found_in v.row.cutoffs s.tail) (0 + blocks_for v.row n) s [] [] acts end
-  found_of s some acts end d = subst (λ k. Draws v.row (found_in v.row.cutoffs s.tail) k s [] [] acts end) (sym one_want) (by s.tail refl some) where
-    by : (o : Option Tail) → s.tail ≡ o → IsSome o → Draws v.row (found_in v.row.cutoffs s.tail) (blocks_for v.row n) s [] [] acts end
+  found_of : (acts : List SourceAct) (end : Result (List ℕ) SourceRefusal)
+      → ((t : Tail) → s.tail ≡ Some t → Draws row (found_in row.cutoffs (Some t)) (blocks_for row n) s [] [] acts end)
+      → Drawn row (found_in row.cutoffs s.tail) s (n ∷ []) acts end
+  found_of acts end d = subst (λ k. Draws row (found_in row.cutoffs s.tail) k s [] [] acts end) (sym one_want) (by s.tail refl some) where
+    by : (o : Option Tail) → s.tail ≡ o → IsSome o → Draws row (found_in row.cutoffs s.tail) (blocks_for row n) s [] [] acts end
     by None e some = cc
-    by (Some t) e some = subst (λ z. Draws v.row (found_in v.row.cutoffs z) (blocks_for v.row n) s [] [] acts end) (sym e) (d t e)
+    by (Some t) e some = subst (λ z. Draws row (found_in row.cutoffs z) (blocks_for row n) s [] [] acts end) (sym e) (d t e)
 
-  tested : (s : SourceState) → IsStateOf told faults v s → IsSome v.tail → IsSome s.tail
-  tested s st some = subst (λ (o : Option Tail). IsSome o) (sym (ap (λ (z : SourceState). z.tail) st.own)) some
+  -- which answer a draw gives
+  outcome_of : (acts : List SourceAct) (end : Result (List ℕ) SourceRefusal) → Drawn row (found_in row.cutoffs s.tail) s (n ∷ []) acts end
+      → (t : Tail) → s.tail ≡ Some t → Outcome s.taken (alarm_from row.cutoffs t (samples_of acts)) (lacking_after (need_of_block row) (need_of_block row) acts) acts end
+  outcome_of acts end d t tl = drawn_ends row t s (n ∷ []) acts end (subst (λ o. Drawn row (found_in row.cutoffs o) s (n ∷ []) acts end) tl d)
 
-  pub drawn : (from to : ℕ) → length out ≡ n → from ≡ v.taken → to ≡ w.taken → IsSome v.tail
-      → Goes told faults v w (λ s now. (bytes : List ℕ) × LeadsBlocks v.row s now (blocks_for v.row n) 0 bytes × (out ≡ take (length out) bytes))
-      → Goes told faults v w (λ s now. HasDrawn v.row n out (Ok (record { from = from; to = to })) s now × EndsDraw {T = Range} v.row n (Ok (record { from = from; to = to })) s now)
-  drawn from to len first last some h s st =
-      let (now, stands, (bytes, x, is)) = h s st in
+  pub drawn : (out : List ℕ) (from to : ℕ) → length out ≡ n → from ≡ s.taken → to ≡ now.taken
+      → (bytes : List ℕ) × LeadsBlocks row s now (blocks_for row n) 0 bytes × (out ≡ take (length out) bytes)
+      → HasDrawn row n out (Ok (record { from = from; to = to })) s now × EndsDraw {T = Range} row n (Ok (record { from = from; to = to })) s now
+  drawn out from to len first last (bytes, x, is) =
       let whole : ℕ → ℕ → Result Range SourceRefusal = λ a b. Ok (record { from = a; to = b }) in
-      let range : whole from to ≡ whole s.taken now.taken =
-      ap (λ a. whole a to) (first ∙ sym (ap (λ (z : SourceState). z.taken) st.own)) ∙ ap (whole s.taken) (last ∙ sym (ap (λ (z : SourceState). z.taken) stands.own)) in (
-        now,
-        stands,
-        (
-          record {
-            acts = x.acts;
-            bytes = Ok bytes;
-            draw = found_of s (tested s st some) x.acts (Ok bytes) (λ t tl.
-                subst (λ z. Draws v.row (found_in v.row.cutoffs (Some t)) (blocks_for v.row n) s [] [] z (Ok bytes)) (append-nil x.acts) (x.goes t [] [] [] (Ok bytes) tl (refl, refl)));
-            state = x.state;
-            answer = (range, is ∙ ap (λ k. take k bytes) len);
-          },
-          (x.others.mode, omega (arith, x.taken, zero-mul (need_of_block v.row), ap (λ k. k * need_of_block v.row) one_want), x.others.faults),
-        ),
+      let range : whole from to ≡ whole s.taken now.taken = ap (λ a. whole a to) first ∙ ap (whole s.taken) last in
+      let draw = found_of x.acts (Ok bytes) (λ t tl.
+      subst (λ z. Draws row (found_in row.cutoffs (Some t)) (blocks_for row n) s [] [] z (Ok bytes)) (append-nil x.acts) (x.goes t [] [] [] (Ok bytes) tl (refl, refl))) in (
+        record {
+          acts = x.acts;
+          bytes = Ok bytes;
+          draw = draw;
+          state = x.state;
+          answer = (range, is ∙ ap (λ k. take k bytes) len);
+          outcome = outcome_of x.acts (Ok bytes) draw;
+        },
+        (x.others.mode, omega (arith, x.taken, zero-mul (need_of_block row), ap (λ k. k * need_of_block row) one_want), x.others.faults),
       )
 
-  pub not_drawn : (why : SourceRefusal) → IsSome v.tail
-      → Goes told faults v w (λ s now. StopsBlocks v.row s now (blocks_for v.row n) why)
-      → Goes told faults v w (λ s now. HasDrawn v.row n out (Err why) s now × EndsDraw {T = Range} v.row n (Err why) s now)
-  not_drawn why some h s st =
-      let (now, stands, x) = h s st in (
-        now,
-        stands,
-        (
-          record {
-            acts = x.acts;
-            bytes = Err why;
-            draw = found_of s (tested s st some) x.acts (Err why) (λ t tl. x.ends t [] [] tl);
-            state = x.state;
-            answer = refl;
-          },
-          x.left,
-        ),
+  pub not_drawn : (out : List ℕ) (why : SourceRefusal) → StopsBlocks row s now (blocks_for row n) why
+      → HasDrawn row n out (Err why) s now × EndsDraw {T = Range} row n (Err why) s now
+  not_drawn out why x =
+      let draw = found_of x.acts (Err why) (λ t tl. x.ends t [] [] tl) in (
+        record {
+          acts = x.acts;
+          bytes = Err why;
+          draw = draw;
+          state = x.state;
+          answer = refl;
+          outcome = outcome_of x.acts (Err why) draw;
+        },
+        x.left,
       )
 
 -- what a refusal after some reads is not, and what is so after it
@@ -151,63 +149,46 @@ running modes.Idle h = cc
 running modes.Running h = refl
 running (modes.Alarmed index test) h = cc
 
--- What a start and a draw come to, of the source itself.
-module _ {S T : Type 0} (told : S → Option (List ℕ)) (faults : S → ℕ) (inside v w : SourceView S) (is : inside ≡ v) (result : Result T SourceRefusal) where
-  pub record Facts (Good : Type 0) (lacks : ℕ) (left : SourceMode) (Spent : ℕ → ℕ → Type 0) (InFault : Cause → Type 0) : Type 0 where
-    pub ok : OnOk result Good
-    pub spent : IfErr result (λ why. IfSpent why Spent)
-    pub error : IfErr result (λ why. IfInError why InFault)
-    pub fault : IfErr result (λ why. IfFault why (λ count. Rose (faults v.samples) (faults w.samples) × (count ≡ faults w.samples) × (w.mode ≡ left)))
-    pub failed : IfErr result (λ why. IfHealthFailed why (λ index test. (faults w.samples ≡ faults v.samples) × (w.mode ≡ modes.Alarmed index test)))
-    pub want : IfErr result (λ why. IfWant why (λ missing. (faults w.samples ≡ faults v.samples) × (w.mode ≡ left) × (0 < missing) × (missing ≤ lacks)))
+-- What is so after each answer of a call that ended so, between the states before and after it.
+pub record Facts {T : Type 0} (s now : SourceState) (result : Result T SourceRefusal) (Good : Type 0) (lacks : ℕ) (left : SourceMode)
+    (Spent : ℕ → ℕ → Type 0) (InFault : Cause → Type 0) : Type 0 where
+  pub ok : OnOk result Good
+  pub spent : IfErr result (λ why. IfSpent why Spent)
+  pub error : IfErr result (λ why. IfInError why InFault)
+  pub fault : IfErr result (λ why. IfFault why (λ count. Rose s.faults now.faults × (count ≡ now.faults) × (now.mode ≡ left)))
+  pub failed : IfErr result (λ why. IfHealthFailed why (λ index test. (now.faults ≡ s.faults) × (now.mode ≡ modes.Alarmed index test)))
+  pub want : IfErr result (λ why. IfWant why (λ missing. (now.faults ≡ s.faults) × (now.mode ≡ left) × (0 < missing) × (missing ≤ lacks)))
 
-  facts : (s : SourceState) (o : Option (List ℕ)) (Good : Type 0) (lacks : ℕ) (Spent : ℕ → ℕ → Type 0) (InFault : Cause → Type 0) → s.faults ≡ faults v.samples
-      → MatchResult result (λ _. Good) (λ why. IsLeft s (record (source_state told faults w) { told = o }) lacks why) → Facts Good lacks s.mode Spent InFault
-  facts s o Good lacks Spent InFault same h = record {
-    ok = ok_clause s (record (source_state told faults w) { told = o }) lacks Good result h;
-    spent = spent_clause s (record (source_state told faults w) { told = o }) lacks Good result Spent h;
-    error = error_clause s (record (source_state told faults w) { told = o }) lacks Good result InFault h;
-    fault = subst (λ k. IfErr result (λ why. IfFault why (λ count. Rose k (faults w.samples) × (count ≡ faults w.samples) × (w.mode ≡ s.mode)))) same
-        (fault_clause s (record (source_state told faults w) { told = o }) lacks Good result h);
-    failed = subst (λ k. IfErr result (λ why. IfHealthFailed why (λ index test. (faults w.samples ≡ k) × (w.mode ≡ modes.Alarmed index test)))) same
-        (failed_clause s (record (source_state told faults w) { told = o }) lacks Good result h);
-    want = subst (λ k. IfErr result (λ why. IfWant why (λ missing. (faults w.samples ≡ k) × (w.mode ≡ s.mode) × (0 < missing) × (missing ≤ lacks)))) same
-        (want_clause s (record (source_state told faults w) { told = o }) lacks Good result h);
-  }
+facts : {T : Type 0} (s now : SourceState) (result : Result T SourceRefusal) (Good : Type 0) (lacks : ℕ) (Spent : ℕ → ℕ → Type 0) (InFault : Cause → Type 0)
+    → MatchResult result (λ _. Good) (λ why. IsLeft s now lacks why) → Facts s now result Good lacks s.mode Spent InFault
+facts s now result Good lacks Spent InFault h = record {
+  ok = ok_clause s now lacks Good result h;
+  spent = spent_clause s now lacks Good result Spent h;
+  error = error_clause s now lacks Good result InFault h;
+  fault = fault_clause s now lacks Good result h;
+  failed = failed_clause s now lacks Good result h;
+  want = want_clause s now lacks Good result h;
+}
 
-  abbrev StartGoes : SourceView S → Type 0
-  StartGoes z = Goes told faults z w (λ s now. HasStarted z.row result s now × EndsStart z.row result s now)
-
-  pub start_acts : StartGoes inside → Goes told faults v w (HasStarted v.row result)
-  start_acts h s st = let (now, stands, x) = subst (λ (z : SourceView S). StartGoes z) is h s st in (now, stands, x.0)
-
-  pub start_facts : (Spent : ℕ → ℕ → Type 0) (InFault : Cause → Type 0) → StartGoes inside
-      → Facts ((w.mode ≡ modes.Running) × (w.taken ≡ v.taken + v.row.startup) × (faults w.samples ≡ faults v.samples)) v.row.startup modes.Idle Spent InFault
+-- The same of a source.
+module _ {S T : Type 0} (told : S → Option (List ℕ)) (faults : S → ℕ) (inside v : SourceView S) (is : inside ≡ v) (now : SourceState) (result : Result T SourceRefusal) where
+  pub start_facts : (Spent : ℕ → ℕ → Type 0) (InFault : Cause → Type 0) → EndsStart inside.row result (source_state told faults inside) now
+      → Facts (source_state told faults v) now result ((now.mode ≡ modes.Running) × (now.taken ≡ v.taken + v.row.startup) × (now.faults ≡ faults v.samples))
+      v.row.startup modes.Idle Spent InFault
   start_facts Spent InFault h =
-      let (now, stands, x) = subst (λ (z : SourceView S). StartGoes z) is h (source_state told faults v) (own_state told faults v) in
-      facts (source_after v.row (source_state told faults v) Began) now.told
-      ((w.mode ≡ modes.Running) × (w.taken ≡ v.taken + v.row.startup) × (faults w.samples ≡ faults v.samples)) v.row.startup Spent InFault refl
-      (subst (λ (z : SourceState). EndsStart v.row result (source_state told faults v) z) stands.own x.1)
+      let f = facts (source_after v.row (source_state told faults v) Began) now result
+      ((now.mode ≡ modes.Running) × (now.taken ≡ v.taken + v.row.startup) × (now.faults ≡ faults v.samples)) v.row.startup Spent InFault
+      (subst (λ (z : SourceView S). EndsStart z.row result (source_state told faults z) now) is h) in
+      record { ok = f.ok; spent = f.spent; error = f.error; fault = f.fault; failed = f.failed; want = f.want }
 
-  abbrev DrawGoes : ℕ → (Result T SourceRefusal → SourceState → SourceState → Type 0) → SourceView S → Type 0
-  DrawGoes n Draw z = Goes told faults z w (λ s now. Draw result s now × EndsDraw z.row n result s now)
-
-  pub draw_facts : (n : ℕ) (Draw : Result T SourceRefusal → SourceState → SourceState → Type 0) (Spent : ℕ → ℕ → Type 0) (InFault : Cause → Type 0)
-      → error_of inside.mode ≡ None → DrawGoes n Draw inside
-      → Facts ((w.mode ≡ v.mode) × (w.taken ≡ v.taken + need_of v.row (n ∷ [])) × (faults w.samples ≡ faults v.samples)) (need_of_block v.row) modes.Running Spent InFault
-  draw_facts n Draw Spent InFault runs h =
-      let (now, stands, x) = subst (λ (z : SourceView S). DrawGoes n Draw z) is h (source_state told faults v) (own_state told faults v) in
-      subst (λ m. Facts ((w.mode ≡ v.mode) × (w.taken ≡ v.taken + need_of v.row (n ∷ [])) × (faults w.samples ≡ faults v.samples)) (need_of_block v.row) m Spent InFault)
+  pub draw_facts : (n : ℕ) (Spent : ℕ → ℕ → Type 0) (InFault : Cause → Type 0) → error_of inside.mode ≡ None
+      → EndsDraw inside.row n result (source_state told faults inside) now
+      → Facts (source_state told faults v) now result ((now.mode ≡ v.mode) × (now.taken ≡ v.taken + need_of v.row (n ∷ [])) × (now.faults ≡ faults v.samples))
+      (need_of_block v.row) modes.Running Spent InFault
+  draw_facts n Spent InFault runs h =
+      subst (λ m. Facts (source_state told faults v) now result ((now.mode ≡ v.mode) × (now.taken ≡ v.taken + need_of v.row (n ∷ [])) × (now.faults ≡ faults v.samples))
+      (need_of_block v.row) m Spent InFault)
       (running v.mode (subst (λ (z : SourceView S). error_of z.mode ≡ None) is runs))
-      (facts (source_state told faults v) now.told
-      ((w.mode ≡ v.mode) × (w.taken ≡ v.taken + need_of v.row (n ∷ [])) × (faults w.samples ≡ faults v.samples)) (need_of_block v.row) Spent InFault refl
-      (subst (λ (z : SourceState). EndsDraw v.row n result (source_state told faults v) z) stands.own x.1))
-
--- the acts of a draw, of the source itself
-pub draw_acts : {S : Type 0} (told : S → Option (List ℕ)) (faults : S → ℕ) (inside v w : SourceView S) → inside ≡ v
-    → (n : ℕ) (out : List ℕ) (result : Result Range SourceRefusal)
-    → Goes told faults inside w (λ s now. HasDrawn inside.row n out result s now × EndsDraw inside.row n result s now)
-    → Goes told faults v w (HasDrawn v.row n out result)
-draw_acts {S = S} told faults inside v w is n out result h s st =
-    let (now, stands, x) = subst (λ (z : SourceView S). Goes told faults z w (λ s now. HasDrawn z.row n out result s now × EndsDraw z.row n result s now)) is h s st in
-    (now, stands, x.0)
+      (facts (source_state told faults v) now result
+      ((now.mode ≡ v.mode) × (now.taken ≡ v.taken + need_of v.row (n ∷ [])) × (now.faults ≡ faults v.samples)) (need_of_block v.row) Spent InFault
+      (subst (λ (z : SourceView S). EndsDraw z.row n result (source_state told faults z) now) is h))

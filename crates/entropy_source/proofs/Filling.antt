@@ -1,6 +1,5 @@
 -- Bytes that are filled block by block.
 use Rattle.std.proofs.Common.{◌≡◌, ◌≤◌, ◌<◌, ◌+◌, ◌-◌, ◌*◌, ℕ, suc, List, [], ◌++◌, length, take, refl, sym, ap, ◌∙◌, subst, arith, length-append, suc-mul, add-one, zero-mul}
-use Rattle.std.specs.Prelude.{Option}
 use Rattle.std.proofs.Math.Seq.{take-append-add, take-nil}
 use Rattle.std.proofs.Math.Nat.{mul-le-mul_right}
 use Rattle.std.proofs.lemmas.List.{take_all}
@@ -8,7 +7,7 @@ use Rattle.std.proofs.lemmas.Grind.{div_ceil_times}
 use Rattle.std.specs.Int.{div_ceil}
 use Rattle.entropy_source.specs.declared.answers.SourceRow.{SourceRow}
 use Rattle.entropy_source.specs.declared.answers.SourceRefusal.{SourceRefusal}
-use Rattle.entropy_source.specs.Views.{SourceView, Goes}
+use Rattle.entropy_source.specs.Source.{SourceState}
 use Rattle.entropy_source.specs.Steps.{LeadsBlocks, StopsBlocks}
 use Rattle.entropy_source.proofs.Conditioning.{blocks_none, blocks_more, blocks_stop}
 
@@ -44,52 +43,42 @@ fill_step bytes block out after i len lb lk fits same so_far put =
     ap (λ k. take k after) (one ∙ ap (λ k. i * len + k) (sym lk)) ∙ (put ∙ (ap (λ z. z ++ take (length out - i * len) block) (so_far ∙ front) ∙ sym two)) in
     (omega (arith, length-append bytes block), all ∙ ap (λ k. take k (bytes ++ block)) (sym same))
 
-module _ {S : Type 0} (told : S → Option (List ℕ)) (faults : S → ℕ) (row : SourceRow) (blocks len : ℕ) where
+module _ (row : SourceRow) (s : SourceState) (blocks len : ℕ) where
   -- the first i blocks are made, and stand in the bytes
-  abbrev pub Filled : SourceView S → SourceView S → ℕ → List ℕ → Type 0
-  Filled v w i out = Goes told faults v w (λ s now. (bytes : List ℕ) × LeadsBlocks row s now blocks (blocks - i) bytes
-      × (length bytes ≡ i * len) × (take (i * len) out ≡ take (length out) bytes))
+  abbrev pub Filled : SourceState → ℕ → List ℕ → Type 0
+  Filled now i out = (bytes : List ℕ) × LeadsBlocks row s now blocks (blocks - i) bytes × (length bytes ≡ i * len) × (take (i * len) out ≡ take (length out) bytes)
 
-  pub filled_none : (v : SourceView S) (out : List ℕ) → Filled v v 0 out
-  filled_none v out s st =
+  pub filled_none : (out : List ℕ) → Filled s 0 out
+  filled_none out =
       let all : blocks ≡ blocks - 0 = omega arith in
-      (s, st, ([], subst (λ k. LeadsBlocks row s s blocks k []) all (blocks_none row s blocks), sym (zero-mul len), rw (zero-mul, take-nil) refl))
+      ([], subst (λ k. LeadsBlocks row s s blocks k []) all (blocks_none row s blocks), sym (zero-mul len), rw (zero-mul, take-nil) refl)
 
-  pub filled_more : (v m w : SourceView S) (i : ℕ) (out after block : List ℕ) → Filled v m i out → m.row ≡ row → i < blocks
-      → Goes told faults m w (λ s now. (left : ℕ) → LeadsBlocks m.row s now (suc left) left block)
-      → length block ≡ len → i * len ≤ length out → length after ≡ length out
-      → take (i * len + length block) after ≡ take (i * len) out ++ take (length out - i * len) block
-      → Filled v w (i + 1) after
-  filled_more v m w i out after block a is less b lk fits same put s st =
-      let (mid, mid_stands, (bytes, first, lb, so_far)) = a s st in
-      let (now, stands, second) = b mid mid_stands in
-      let left : suc (blocks - (i + 1)) ≡ blocks - i = omega arith in
-      let made : LeadsBlocks row mid now (blocks - i) (blocks - (i + 1)) block =
-      subst (λ k. LeadsBlocks row mid now k (blocks - (i + 1)) block) left (subst (λ r. LeadsBlocks r mid now (suc (blocks - (i + 1))) (blocks - (i + 1)) block) is (second (blocks - (i + 1)))) in
-      let step = fill_step bytes block out after i len lb lk fits same so_far put in
-      (now, stands, (bytes ++ block, blocks_more row s mid now blocks (blocks - i) bytes first (blocks - (i + 1)) block made, step.0, step.1))
+  module _ (mid now : SourceState) (here : SourceRow) (is : here ≡ row) (i : ℕ) (less : i < blocks) (out : List ℕ) where
+    one_less : suc (blocks - (i + 1)) ≡ blocks - i
+    one_less = omega arith
 
-  pub filled_stops : (v m w : SourceView S) (i : ℕ) (out : List ℕ) (why : SourceRefusal) → Filled v m i out → m.row ≡ row → i < blocks
-      → Goes told faults m w (λ s now. (left : ℕ) → StopsBlocks m.row s now (suc left) why)
-      → Goes told faults v w (λ s now. StopsBlocks row s now blocks why)
-  filled_stops v m w i out why a is less b s st =
-      let (mid, mid_stands, (bytes, first, lb, so_far)) = a s st in
-      let (now, stands, second) = b mid mid_stands in
-      let left : suc (blocks - (i + 1)) ≡ blocks - i = omega arith in
-      let made : StopsBlocks row mid now (blocks - i) why =
-      subst (λ k. StopsBlocks row mid now k why) left (subst (λ r. StopsBlocks r mid now (suc (blocks - (i + 1))) why) is (second (blocks - (i + 1)))) in
-      (now, stands, blocks_stop row s mid now blocks (blocks - i) bytes first why made)
+    pub filled_more : (after block : List ℕ) → Filled mid i out
+        → ((left : ℕ) → LeadsBlocks here mid now (suc left) left block)
+        → length block ≡ len → i * len ≤ length out → length after ≡ length out
+        → take (i * len + length block) after ≡ take (i * len) out ++ take (length out - i * len) block
+        → Filled now (i + 1) after
+    filled_more after block (bytes, first, lb, so_far) second lk fits same put =
+        let made : LeadsBlocks row mid now (blocks - i) (blocks - (i + 1)) block =
+        subst (λ k. LeadsBlocks row mid now k (blocks - (i + 1)) block) one_less (subst (λ r. LeadsBlocks r mid now (suc (blocks - (i + 1))) (blocks - (i + 1)) block) is (second (blocks - (i + 1)))) in
+        let step = fill_step bytes block out after i len lb lk fits same so_far put in
+        (bytes ++ block, blocks_more row s mid now blocks (blocks - i) bytes first (blocks - (i + 1)) block made, step.0, step.1)
 
-  pub filled_all : (v w : SourceView S) (out : List ℕ) (wanted : ℕ) → wanted ≡ blocks → length out ≤ blocks * len → Filled v w blocks out
-      → Goes told faults v w (λ s now. (bytes : List ℕ) × LeadsBlocks row s now wanted 0 bytes × (out ≡ take (length out) bytes))
-  filled_all v w out wanted is enough a s st =
-      let (now, stands, (bytes, leads, lb, all)) = a s st in
+    pub filled_stops : (why : SourceRefusal) → Filled mid i out → ((left : ℕ) → StopsBlocks here mid now (suc left) why) → StopsBlocks row s now blocks why
+    filled_stops why (bytes, first, lb, so_far) second =
+        let made : StopsBlocks row mid now (blocks - i) why =
+        subst (λ k. StopsBlocks row mid now k why) one_less (subst (λ r. StopsBlocks r mid now (suc (blocks - (i + 1))) why) is (second (blocks - (i + 1)))) in
+        blocks_stop row s mid now blocks (blocks - i) bytes first why made
+
+  pub filled_all : (now : SourceState) (out : List ℕ) (wanted : ℕ) → wanted ≡ blocks → length out ≤ blocks * len → Filled now blocks out
+      → (bytes : List ℕ) × LeadsBlocks row s now wanted 0 bytes × (out ≡ take (length out) bytes)
+  filled_all now out wanted is enough (bytes, leads, lb, all) =
       let none : blocks - blocks ≡ 0 = omega arith in (
-        now,
-        stands,
-        (
-          bytes,
-          subst (λ k. LeadsBlocks row s now k 0 bytes) (sym is) (subst (λ k. LeadsBlocks row s now blocks k bytes) none leads),
-          sym (take_all (blocks * len) out enough) ∙ all,
-        ),
+        bytes,
+        subst (λ k. LeadsBlocks row s now k 0 bytes) (sym is) (subst (λ k. LeadsBlocks row s now blocks k bytes) none leads),
+        sym (take_all (blocks * len) out enough) ∙ all,
       )

@@ -1,5 +1,5 @@
 -- Reads one after another are reads.
-use Rattle.std.proofs.Common.{◌≡◌, ◌≤◌, ◌+◌, ℕ, List, [], ◌∷◌, ◌++◌, length, refl, sym, ap, ◌∙◌, subst, arith, append_assoc, append-nil, length-append}
+use Rattle.std.proofs.Common.{◌≡◌, ◌≤◌, ℕ, List, [], ◌∷◌, ◌++◌, refl, sym, ap, ◌∙◌, subst, arith, append_assoc, append-nil, length-append}
 use Rattle.std.specs.Prelude.{Option, Some, None, IsSome, Ok, Err}
 use Rattle.rbg_bytes.specs.Streams.{Rose}
 use Rattle.health_tests.specs.declared.numbers.Tail.{Tail}
@@ -9,8 +9,6 @@ use Rattle.entropy_source.specs.declared.answers.SourceRefusal.{SourceRefusal}
 use Rattle.entropy_source.specs.declared.answers.SourceRefusal.TheVariants.{SourceSpent, InError, SourceFault, HealthFailed, WantOfEntropy}
 use Rattle.entropy_source.specs.Source.{SourceAct, SourceState, source_after, source_after_all}
 use Rattle.entropy_source.specs.Draws.{Gathers, found_in}
-use Rattle.entropy_source.specs.Views.{SourceView, Goes, source_state}
-use Rattle.entropy_source.proofs.Stands.{own_state}
 use Rattle.entropy_source.specs.Steps.{IsLeft, Leads, Stops}
 
 -- the state after two rows of acts
@@ -92,44 +90,25 @@ gathered_all row s now lacks got a t has read tl =
     subst (λ z. Gathers row (found_in row.cutoffs (Some t)) lacks s has read z (Ok (has ++ got))) (append-nil a.acts)
     (a.goes t has read [] (Ok (has ++ got)) tl (refl, refl))
 
--- The same of a source.
-module _ {S : Type 0} (told : S → Option (List ℕ)) (faults : S → ℕ) (row : SourceRow) (lacks : ℕ) where
-  -- so many samples are left to be read
-  abbrev pub Left : SourceView S → SourceView S → ℕ → Type 0
-  Left v w left = Goes told faults v w (λ s now. (got : List ℕ) × Leads row s now lacks left got)
+-- Reads so that some samples are left to be read.
+module _ (row : SourceRow) (s : SourceState) (lacks : ℕ) where
+  abbrev pub Left : SourceState → ℕ → Type 0
+  Left now left = (got : List ℕ) × Leads row s now lacks left got
 
-  pub left_none : (v : SourceView S) (left : ℕ) → left ≡ lacks → Left v v left
-  left_none v left is s st = (s, st, ([], subst (λ k. Leads row s s lacks k []) (sym is) (leads_none row s lacks)))
+  pub left_none : (left : ℕ) → left ≡ lacks → Left s left
+  left_none left is = ([], subst (λ k. Leads row s s lacks k []) (sym is) (leads_none row s lacks))
 
-  pub left_more : (v m w : SourceView S) (left rest : ℕ) (more : List ℕ) → Left v m left → m.row ≡ row
-      → Goes told faults m w (λ s now. Leads m.row s now left rest more) → Left v w rest
-  left_more v m w left rest more a is b s st =
-      let (mid, mid_stands, (got, first)) = a s st in
-      let (now, stands, second) = b mid mid_stands in
-      (now, stands, (got ++ more, leads_more row s mid now lacks left got first rest more (subst (λ r. Leads r mid now left rest more) is second)))
+  module _ (mid now : SourceState) (here : SourceRow) (is : here ≡ row) (left : ℕ) where
+    pub left_more : (rest : ℕ) (more : List ℕ) → Left mid left → Leads here mid now left rest more → Left now rest
+    left_more rest more (got, first) second =
+        (got ++ more, leads_more row s mid now lacks left got first rest more (subst (λ r. Leads r mid now left rest more) is second))
 
-  pub left_stops : (v m w : SourceView S) (left : ℕ) (why : SourceRefusal) → Left v m left → m.row ≡ row
-      → Goes told faults m w (λ s now. Stops m.row s now left why) → Goes told faults v w (λ s now. Stops row s now lacks why)
-  left_stops v m w left why a is b s st =
-      let (mid, mid_stands, (got, first)) = a s st in
-      let (now, stands, second) = b mid mid_stands in
-      (now, stands, leads_stops row s mid now lacks left got first why (subst (λ r. Stops r mid now left why) is second))
+    pub left_stops : (why : SourceRefusal) → Left mid left → Stops here mid now left why → Stops row s now lacks why
+    left_stops why (got, first) second = leads_stops row s mid now lacks left got first why (subst (λ r. Stops r mid now left why) is second)
 
--- what is so of a source after reads without an alarm
-pub read_facts : {S : Type 0} (told : S → Option (List ℕ)) (faults : S → ℕ) (row : SourceRow) (lacks left : ℕ) (got : List ℕ) (v w : SourceView S)
-    → Goes told faults v w (λ s now. Leads row s now lacks left got) → IsSome v.tail
-    → IsSome w.tail × (w.taken ≡ v.taken + length got) × (length got + left ≡ lacks)
-read_facts told faults row lacks left got v w h some =
-    let (now, st, leads) = h (source_state told faults v) (own_state told faults v) in
-    (by now w.tail (ap (λ (z : SourceState). z.tail) st.own) v.tail some leads.keeps, sym (ap (λ (z : SourceState). z.taken) st.own) ∙ leads.taken, leads.count) where
-      by : (now : SourceState) (p : Option Tail) → now.tail ≡ p → (o : Option Tail) → IsSome o
-          → ((t : Tail) → o ≡ Some t → now.tail ≡ Some (tail_after row.cutoffs.window t got)) → IsSome p
-      by now p e None some keeps = cc
-      by now p e (Some t) some keeps = subst (λ (o : Option Tail). IsSome o) (sym (keeps t refl) ∙ e) refl
-
--- the number of blocks after reads without an alarm
-pub same_blocks : {S : Type 0} (told : S → Option (List ℕ)) (faults : S → ℕ) (row : SourceRow) (lacks left : ℕ) (got : List ℕ) (v w : SourceView S)
-    → Goes told faults v w (λ s now. Leads row s now lacks left got) → w.blocks ≡ v.blocks
-same_blocks told faults row lacks left got v w h =
-    let (now, st, leads) = h (source_state told faults v) (own_state told faults v) in
-    sym (ap (λ (z : SourceState). z.blocks) st.own) ∙ leads.blocks
+-- the tests keep something after reads without an alarm
+pub still_tested : (row : SourceRow) (s now : SourceState) (lacks left : ℕ) (got : List ℕ) → Leads row s now lacks left got → IsSome s.tail → IsSome now.tail
+still_tested row s now lacks left got leads some = by s.tail some leads.keeps where
+  by : (o : Option Tail) → IsSome o → ((t : Tail) → o ≡ Some t → now.tail ≡ Some (tail_after row.cutoffs.window t got)) → IsSome now.tail
+  by None some keeps = cc
+  by (Some t) some keeps = subst (λ (o : Option Tail). IsSome o) (sym (keeps t refl)) refl

@@ -1,10 +1,12 @@
 mod Stands
 mod Reading
 mod Joining
+mod Fresh
 mod Starts
 mod Conditioning
 mod Filling
 mod Ends
 pub mod Joins
 pub mod Counts
+pub mod Portions
 mod Answering

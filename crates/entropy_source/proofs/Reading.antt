@@ -16,9 +16,9 @@ use Rattle.entropy_source.specs.declared.answers.SourceRefusal.{SourceRefusal}
 use Rattle.entropy_source.specs.declared.answers.SourceRefusal.TheVariants.{SourceFault, HealthFailed, WantOfEntropy}
 use Rattle.entropy_source.specs.Source.{SourceAct, SourceState, Read, Alarmed, source_after}
 use Rattle.entropy_source.specs.Draws.{AreNext, Answers, Gathers, found_in}
-use Rattle.entropy_source.specs.Views.{SourceView, IsStateOf, Goes, kept_tail}
+use Rattle.entropy_source.specs.Views.{SourceView, source_state, kept_tail}
 use Rattle.entropy_source.specs.Steps.{Leads, Stops}
-use Rattle.entropy_source.proofs.Stands.{are_next, kept, kept_some, read_stands, state_is, moved}
+use Rattle.entropy_source.proofs.Stands.{are_next, kept, kept_some, read_state}
 
 some_same : {t u : Tail} → Some t ≡ Some u → t ≡ u
 some_same h = cc
@@ -105,85 +105,76 @@ same_tail w None = refl
 same_tail w (Some t) = refl
 
 -- The same of a source.
-module _ {S : Type 0} (told : S → Option (List ℕ)) (faults : S → ℕ) (v : SourceView S) (now : S) (lacks : ℕ) (lacking : 0 < lacks) where
-  before : {s : SourceState} → IsStateOf told faults v s → s.faults ≡ faults v.samples
-  before st = ap (λ (z : SourceState). z.faults) st.own
+module _ {S : Type 0} (told : S → Option (List ℕ)) (faults : S → ℕ) (v : SourceView S) (now : S) (lacks : ℕ) (lacking : 0 < lacks)
+    (untold : told v.samples ≡ None → told now ≡ None) where
+  abbrev old : SourceState
+  old = source_state told faults v
 
   pub failed : (count : ℕ) → count ≡ faults now → Keeps (told v.samples) (told now) → Rose (faults v.samples) (faults now)
-      → Goes told faults v (record v { samples = now }) (λ s after. Stops v.row s after lacks (SourceFault count))
-  failed count is keeps rose s st = (
-    source_after v.row s (Read (min 4096 lacks) None count),
-    read_stands told faults v.row v (record v { samples = now }) s (min 4096 lacks) None count st (omega arith) refl refl refl
-        (same_tail v.row.cutoffs.window v.tail) is (kept (told v.samples) (told now) keeps),
-    stops_failed v.row s lacks count lacking (record {
-      few = omega arith;
-      told = none s.told;
-      cause = subst (λ z. Rose z count) (sym (before st)) (subst (λ z. Rose (faults v.samples) z) (sym is) rose);
-    }),
-  ) where
-    none : (o : Option (List ℕ)) → IfSome o (λ left. IfSome None (λ xs. AreNext left xs))
-    none None = tt
-    none (Some left) = tt
+      → Stops v.row old (source_state told faults (record v { samples = now })) lacks (SourceFault count)
+  failed count is keeps rose =
+      subst (λ (s : SourceState). Stops v.row old s lacks (SourceFault count))
+      (sym (read_state told faults v.row v (record v { samples = now }) (min 4096 lacks) None count (omega arith) refl refl refl
+      (same_tail v.row.cutoffs.window v.tail) is (kept (told v.samples) (told now) keeps) untold))
+      (stops_failed v.row old lacks count lacking (record {
+        few = omega arith;
+        told = none (told v.samples);
+        cause = subst (λ z. Rose (faults v.samples) z) (sym is) rose;
+      })) where
+        none : (o : Option (List ℕ)) → IfSome o (λ left. IfSome None (λ xs. AreNext left xs))
+        none None = tt
+        none (Some left) = tt
 
   pub ended : (got : List ℕ) → got ≡ [] → Consumes (told v.samples) (told now) got → IsAtEnd (told now) → faults now ≡ faults v.samples
-      → Goes told faults v (record v { samples = now }) (λ s after. Stops v.row s after lacks (WantOfEntropy lacks))
-  ended got is takes none kept s st =
-      let takes_none = subst (λ z. Consumes (told v.samples) (told now) z) is takes in (
-        source_after v.row s (Read (min 4096 lacks) (Some []) (faults now)),
-        read_stands told faults v.row v (record v { samples = now }) s (min 4096 lacks) (Some []) (faults now) st (omega arith) refl refl refl
-            (same_tail v.row.cutoffs.window v.tail) refl takes_none,
-        stops_ended v.row s lacks (faults now) lacking (record {
-          few = omega arith;
-          told = are_next s.told (told v.samples) (told now) [] st.tells takes_none (λ e. none);
-          cause = kept ∙ sym (before st);
-        }),
-      )
+      → Stops v.row old (source_state told faults (record v { samples = now })) lacks (WantOfEntropy lacks)
+  ended got is takes none kept =
+      let takes_none = subst (λ z. Consumes (told v.samples) (told now) z) is takes in
+      subst (λ (s : SourceState). Stops v.row old s lacks (WantOfEntropy lacks))
+      (sym (read_state told faults v.row v (record v { samples = now }) (min 4096 lacks) (Some []) (faults now) (omega arith) refl refl refl
+      (same_tail v.row.cutoffs.window v.tail) refl takes_none untold))
+      (stops_ended v.row old lacks (faults now) lacking (record {
+        few = omega arith;
+        told = are_next (told v.samples) (told now) [] takes_none (λ e. none);
+        cause = kept;
+      }))
 
   module _ (got : List ℕ) (some : 0 < length got) (few : length got ≤ min 4096 lacks) (takes : Consumes (told v.samples) (told now) got)
       (kept : faults now ≡ faults v.samples) (tail : Tail) (is : v.tail ≡ Some tail) where
-    answers : (s : SourceState) → IsStateOf told faults v s → Answers s (min 4096 lacks) (Some got) (faults now)
-    answers s st = record {
+    answers : Answers old (min 4096 lacks) (Some got) (faults now)
+    answers = record {
       few = few;
-      told = are_next s.told (told v.samples) (told now) got st.tells takes (λ e. absurd (omega (arith, some, ap (length {A = ℕ}) e)));
-      cause = kept ∙ sym (before st);
+      told = are_next (told v.samples) (told now) got takes (λ e. absurd (omega (arith, some, ap (length {A = ℕ}) e)));
+      cause = kept;
     }
 
     abbrev counted : Option Tail → SourceView S
     counted tail = record v { taken = v.taken + length got; tail = tail; samples = now }
 
-    stands : (s : SourceState) → IsStateOf told faults v s
-        → IsStateOf told faults (counted (Some (tail_after v.row.cutoffs.window tail got))) (source_after v.row s (Read (min 4096 lacks) (Some got) (faults now)))
-    stands s st =
-        read_stands told faults v.row v (counted (Some (tail_after v.row.cutoffs.window tail got))) s (min 4096 lacks) (Some got) (faults now) st refl refl refl refl
-        (sym (ap (option_map (λ t. tail_after v.row.cutoffs.window t got)) is)) refl takes
+    read_now : source_state told faults (counted (Some (tail_after v.row.cutoffs.window tail got))) ≡ source_after v.row old (Read (min 4096 lacks) (Some got) (faults now))
+    read_now =
+        read_state told faults v.row v (counted (Some (tail_after v.row.cutoffs.window tail got))) (min 4096 lacks) (Some got) (faults now) refl refl refl refl
+        (sym (ap (option_map (λ t. tail_after v.row.cutoffs.window t got)) is)) refl takes untold
 
     pub went_on : alarm_from v.row.cutoffs tail got ≡ None
-        → Goes told faults v (counted (Some (tail_after v.row.cutoffs.window tail got))) (λ s after. Leads v.row s after lacks (lacks - length got) got)
-    went_on none s st = (
-      source_after v.row s (Read (min 4096 lacks) (Some got) (faults now)),
-      stands s st,
-      leads_one v.row s lacks (faults now) lacking tail (ap (λ (z : SourceState). z.tail) st.own ∙ is) got some (answers s st) none,
-    )
+        → Leads v.row old (source_state told faults (counted (Some (tail_after v.row.cutoffs.window tail got)))) lacks (lacks - length got) got
+    went_on none = subst (λ (s : SourceState). Leads v.row old s lacks (lacks - length got) got) (sym read_now)
+        (leads_one v.row old lacks (faults now) lacking tail is got some answers none)
 
     pub alarmed : (alarm : Alarm) → alarm_from v.row.cutoffs tail got ≡ Some alarm
-        → Goes told faults v (record (counted None) { alarms = v.alarms + 1; mode = modes.Alarmed (v.taken + alarm.at) alarm.test })
-        (λ s after. Stops v.row s after lacks (HealthFailed (v.taken + alarm.at) alarm.test))
-    alarmed alarm found s st =
-        let first = source_after v.row s (Read (min 4096 lacks) (Some got) (faults now)) in
-        let read = stands s st in
-        let place : s.taken + alarm.at ≡ v.taken + alarm.at = ap (λ (z : SourceState). z.taken + alarm.at) st.own in (
-          source_after v.row first (Alarmed (s.taken + alarm.at) alarm.test),
-          record {
-            own =
-                state_is (source_after v.row first (Alarmed (s.taken + alarm.at) alarm.test)) (v.taken + length got) v.blocks (v.alarms + 1)
-                (modes.Alarmed (v.taken + alarm.at) alarm.test) None (faults now)
-                (ap (λ (z : SourceState). z.taken) read.own) (ap (λ (z : SourceState). z.blocks) read.own) (ap (λ (z : SourceState). z.alarms + 1) read.own)
-                (ap (λ k. modes.Alarmed k alarm.test) place) refl refl;
-            tells = read.tells;
-          },
-          subst (λ k. Stops v.row s (source_after v.row first (Alarmed (s.taken + alarm.at) alarm.test)) lacks (HealthFailed k alarm.test)) place
-              (stops_alarmed v.row s lacks (faults now) lacking tail (ap (λ (z : SourceState). z.tail) st.own ∙ is) got some (answers s st) alarm found),
-        )
+        → Stops v.row old (source_state told faults (record (counted None) { alarms = v.alarms + 1; mode = modes.Alarmed (v.taken + alarm.at) alarm.test }))
+        lacks (HealthFailed (v.taken + alarm.at) alarm.test)
+    alarmed alarm found =
+        let last = Alarmed (v.taken + alarm.at) alarm.test in
+        let alarm_now : source_state told faults (record (counted None) { alarms = v.alarms + 1; mode = modes.Alarmed (v.taken + alarm.at) alarm.test })
+        ≡ source_after v.row (source_after v.row old (Read (min 4096 lacks) (Some got) (faults now))) last =
+        ap (λ (s : SourceState). source_after v.row s last) read_now in
+        subst (λ (s : SourceState). Stops v.row old s lacks (HealthFailed (v.taken + alarm.at) alarm.test)) (sym alarm_now)
+        (stops_alarmed v.row old lacks (faults now) lacking tail is got some answers alarm found)
+
+-- the same of a source that is this one
+pub moved : {S : Type 0} (told : S → Option (List ℕ)) (faults : S → ℕ) (v u : SourceView S) → v ≡ u → (now : SourceState) (lacks : ℕ) (why : SourceRefusal)
+    → Stops v.row (source_state told faults v) now lacks why → Stops u.row (source_state told faults u) now lacks why
+moved {S = S} told faults v u is now lacks why h = subst (λ (z : SourceView S). Stops z.row (source_state told faults z) now lacks why) is h
 
 -- The same as the code has it: what the tests keep stands in the view while they have not alarmed.
 module _ {S : Type 0} (told : S → Option (List ℕ)) (faults : S → ℕ) (row : SourceRow) (samples now : S) (tests after : Standing) (taken blocks alarms : ℕ)
@@ -192,7 +183,7 @@ module _ {S : Type 0} (told : S → Option (List ℕ)) (faults : S → ℕ) (row
   seen = record { row = row; taken = taken; blocks = blocks; alarms = alarms; mode = mode; tail = kept_tail mode tests.tail; samples = samples }
 
   module _ (is : seen ≡ u) (lacking : 0 < lacks) (tested : IsSome u.tail) (counted : count ≡ length got) (some : 0 < count) (few : count ≤ min 4096 lacks)
-      (takes : Consumes (told samples) (told now) got) (kept : faults now ≡ faults samples) (same : tests.cutoffs ≡ row.cutoffs) where
+      (takes : Consumes (told samples) (told now) got) (untold : told samples ≡ None → told now ≡ None) (kept : faults now ≡ faults samples) (same : tests.cutoffs ≡ row.cutoffs) where
     has_tail : IsSome (kept_tail mode tests.tail)
     has_tail = subst (λ (z : SourceView S). IsSome z.tail) (sym is) tested
 
@@ -203,25 +194,28 @@ module _ {S : Type 0} (told : S → Option (List ℕ)) (faults : S → ℕ) (row
     few_got = subst (λ k. k ≤ min 4096 lacks) counted few
 
     pub quiet_read : None ≡ alarm_from tests.cutoffs tests.tail got → after.tail ≡ tail_after tests.cutoffs.window tests.tail got
-        → Goes told faults u (record seen { taken = taken + count; tail = kept_tail mode after.tail; samples = now })
-        (λ s now. Leads u.row s now lacks (lacks - count) got)
+        → Leads u.row (source_state told faults u) (source_state told faults (record seen { taken = taken + count; tail = kept_tail mode after.tail; samples = now }))
+        lacks (lacks - count) got
     quiet_read none numbers =
-        moved told faults seen u is (record seen { taken = taken + count; tail = kept_tail mode after.tail; samples = now })
-        (λ row s now. Leads row s now lacks (lacks - count) got)
-        (subst (λ (o : Option Tail). Goes told faults seen (record seen { taken = taken + count; tail = o; samples = now }) (λ s now. Leads row s now lacks (lacks - count) got))
+        subst (λ (z : SourceView S). Leads z.row (source_state told faults z)
+        (source_state told faults (record seen { taken = taken + count; tail = kept_tail mode after.tail; samples = now })) lacks (lacks - count) got) is
+        (subst (λ (o : Option Tail). Leads row (source_state told faults seen) (source_state told faults (record seen { taken = taken + count; tail = o; samples = now })) lacks (lacks - count) got)
         (sym (kept_some mode tests.tail has_tail after.tail ∙ ap Some (numbers ∙ ap (λ (c : Limits). tail_after c.window tests.tail got) same)))
-        (subst (λ k. Goes told faults seen (record seen { taken = taken + k; tail = Some (tail_after row.cutoffs.window tests.tail got); samples = now })
-        (λ s now. Leads row s now lacks (lacks - k) got)) (sym counted)
-        (went_on told faults seen now lacks lacking got some_got few_got takes kept tests.tail (kept_some mode tests.tail has_tail tests.tail)
+        (subst (λ k. Leads row (source_state told faults seen)
+        (source_state told faults (record seen { taken = taken + k; tail = Some (tail_after row.cutoffs.window tests.tail got); samples = now })) lacks (lacks - k) got) (sym counted)
+        (went_on told faults seen now lacks lacking untold got some_got few_got takes kept tests.tail (kept_some mode tests.tail has_tail tests.tail)
         (ap (λ (c : Limits). alarm_from c tests.tail got) (sym same) ∙ sym none))))
 
     pub alarm_read : (alarm : Alarm) → Some alarm ≡ alarm_from tests.cutoffs tests.tail got
-        → Goes told faults u (record seen { taken = taken + count; alarms = alarms + 1; mode = modes.Alarmed (taken + alarm.at) alarm.test; tail = None; samples = now })
-        (λ s now. Stops u.row s now lacks (HealthFailed (taken + alarm.at) alarm.test))
+        → Stops u.row (source_state told faults u)
+        (source_state told faults (record seen { taken = taken + count; alarms = alarms + 1; mode = modes.Alarmed (taken + alarm.at) alarm.test; tail = None; samples = now }))
+        lacks (HealthFailed (taken + alarm.at) alarm.test)
     alarm_read alarm found =
-        moved told faults seen u is (record seen { taken = taken + count; alarms = alarms + 1; mode = modes.Alarmed (taken + alarm.at) alarm.test; tail = None; samples = now })
-        (λ row s now. Stops row s now lacks (HealthFailed (taken + alarm.at) alarm.test))
-        (subst (λ k. Goes told faults seen (record seen { taken = taken + k; alarms = alarms + 1; mode = modes.Alarmed (taken + alarm.at) alarm.test; tail = None; samples = now })
-        (λ s now. Stops row s now lacks (HealthFailed (taken + alarm.at) alarm.test))) (sym counted)
-        (alarmed told faults seen now lacks lacking got some_got few_got takes kept tests.tail (kept_some mode tests.tail has_tail tests.tail)
+        subst (λ (z : SourceView S). Stops z.row (source_state told faults z)
+        (source_state told faults (record seen { taken = taken + count; alarms = alarms + 1; mode = modes.Alarmed (taken + alarm.at) alarm.test; tail = None; samples = now }))
+        lacks (HealthFailed (taken + alarm.at) alarm.test)) is
+        (subst (λ k. Stops row (source_state told faults seen)
+        (source_state told faults (record seen { taken = taken + k; alarms = alarms + 1; mode = modes.Alarmed (taken + alarm.at) alarm.test; tail = None; samples = now }))
+        lacks (HealthFailed (taken + alarm.at) alarm.test)) (sym counted)
+        (alarmed told faults seen now lacks lacking untold got some_got few_got takes kept tests.tail (kept_some mode tests.tail has_tail tests.tail)
         alarm (ap (λ (c : Limits). alarm_from c tests.tail got) (sym same) ∙ sym found)))

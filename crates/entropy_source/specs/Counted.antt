@@ -1,7 +1,7 @@
 -- What is counted on acts in a row: the samples that they read, the blocks, the alarms, the mode in which they leave a source,
--- and the samples since the tests were fresh.
+-- the samples since the tests were fresh, and what a block or a start-up lacks.
 -- This project's own.
-use Rattle.std.specs.Prelude.{ℕ, ◌+◌, List, [], ◌∷◌, ◌++◌, Bool, true, false, Some, None, Result, Ok, Err}
+use Rattle.std.specs.Prelude.{ℕ, ◌+◌, ◌-◌, List, [], ◌∷◌, ◌++◌, length, Bool, true, false, Some, None, Result, Ok, Err}
 use Rattle.entropy_source.specs.Source.{SourceAct, Began, Read, Alarmed, Started, Block, given}
 use Rattle.entropy_source.specs.declared.answers.SourceRefusal.{SourceRefusal}
 use Rattle.entropy_source.specs.declared.answers.SourceMode.{SourceMode}
@@ -44,6 +44,13 @@ alarmed_after before [] = before
 alarmed_after before (Began ∷ acts) = alarmed_after false acts
 alarmed_after before (Alarmed index test ∷ acts) = alarmed_after true acts
 alarmed_after before (_ ∷ acts) = alarmed_after before acts
+
+-- what the present block lacks, each being of so many samples, where it lacked so many before the acts; and so the start-up
+abbrev pub lacking_after : ℕ → ℕ → List SourceAct → ℕ
+lacking_after need lacks [] = lacks
+lacking_after need lacks (Read asked got count ∷ acts) = lacking_after need (lacks - length (given got)) acts
+lacking_after need lacks (Block from to bytes ∷ acts) = lacking_after need need acts
+lacking_after need lacks (_ ∷ acts) = lacking_after need lacks acts
 
 -- whether a read gave no sample, and whether a read failed
 abbrev pub gave_none : List SourceAct → Bool

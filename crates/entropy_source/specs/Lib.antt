@@ -1,7 +1,7 @@
 pub mod Source
 pub mod Draws
+pub mod Counted
+pub mod Outcomes
 pub mod Views
 pub mod Causes
 pub mod Steps
-pub mod Counted
-pub mod Outcomes

@@ -14,18 +14,19 @@ FailsAt taken alarm result =
     MatchOption alarm ((index : ℕ) (test : Test) → result ≡ Err (HealthFailed index test) → ⊥)
     (λ a. result ≡ Err (HealthFailed (taken + a.at) a.test))
 
--- WantOfEntropy exactly where a read gave none
-abbrev pub WantsWhere : Bool → Result (List ℕ) SourceRefusal → Type 0
-WantsWhere true result = (missing : ℕ) × (result ≡ Err (WantOfEntropy missing))
-WantsWhere false result = (missing : ℕ) → result ≡ Err (WantOfEntropy missing) → ⊥
+-- WantOfEntropy exactly where a read gave none, with what was missing then
+abbrev pub WantsWhere : Bool → ℕ → Result (List ℕ) SourceRefusal → Type 0
+WantsWhere true missing result = result ≡ Err (WantOfEntropy missing)
+WantsWhere false missing result = (n : ℕ) → result ≡ Err (WantOfEntropy n) → ⊥
 
 -- SourceFault exactly where a read failed
 abbrev pub FaultsWhere : Bool → Result (List ℕ) SourceRefusal → Type 0
 FaultsWhere true result = (count : ℕ) × (result ≡ Err (SourceFault count))
 FaultsWhere false result = (count : ℕ) → result ≡ Err (SourceFault count) → ⊥
 
--- a call that began when so many samples were taken, with the first alarm among those that it read
-pub record Outcome (taken : ℕ) (alarm : Option Alarm) (acts : List SourceAct) (result : Result (List ℕ) SourceRefusal) : Type 0 where
+-- a call that began when so many samples were taken, with the first alarm among those that it read, and with what its block or
+-- start-up lacks after its acts
+pub record Outcome (taken : ℕ) (alarm : Option Alarm) (missing : ℕ) (acts : List SourceAct) (result : Result (List ℕ) SourceRefusal) : Type 0 where
   pub health : FailsAt taken alarm result
-  pub want : WantsWhere (gave_none acts) result
+  pub want : WantsWhere (gave_none acts) missing result
   pub fault : FaultsWhere (has_failed acts) result

@@ -1,10 +1,14 @@
--- What contracts see of a source, the state that it stands for, and what a start and a draw do to it.
+-- What contracts see of a source, its state, and what a start and a draw do to it.
 -- This project's own.
-use Rattle.std.specs.Prelude.{◌≡◌, ◌≤◌, ◌^◌, ℕ, List, [], ◌∷◌, take, Option, Some, None, IsSome, IfSome, Result, Ok, Err, MatchResult}
+use Rattle.std.specs.Prelude.{◌≡◌, ◌≤◌, ◌-◌, ◌^◌, ℕ, List, [], ◌∷◌, length, take, Option, Some, None, IsSome, Result, Ok, Err, MatchResult}
 use Rattle.health_tests.specs.declared.numbers.Tail.{Tail}
 use Rattle.health_tests.specs.Cutoffs.{AreSound}
-use Rattle.entropy_source.specs.Source.{SourceAct, SourceState, source_after_all}
+use Rattle.health_tests.specs.Windows.{alarm_in}
+use Rattle.health_tests.specs.Numbers.{alarm_from}
+use Rattle.entropy_source.specs.Source.{SourceAct, SourceState, source_after_all, need_of_block}
 use Rattle.entropy_source.specs.Draws.{Drawn, Start, found_in}
+use Rattle.entropy_source.specs.Counted.{samples_of, lacking_after}
+use Rattle.entropy_source.specs.Outcomes.{Outcome}
 use Rattle.entropy_source.specs.declared.answers.SourceRow.{SourceRow}
 use Rattle.entropy_source.specs.declared.answers.SourceMode.{SourceMode}
 use Rattle.entropy_source.specs.declared.answers.SourceMode.TheVariants.{Idle, Running, Alarmed}
@@ -23,7 +27,7 @@ pub record SourceView (S : Type 0) : Type 0 where
   pub tail : Option Tail
   pub samples : S
 
--- the state of a source, where its samples tell what is to come and how often they failed
+-- the state of a source: its numbers, the samples to come where they are told, and how often they failed
 abbrev pub source_state : {S : Type 0} → (S → Option (List ℕ)) → (S → ℕ) → SourceView S → SourceState
 source_state told faults v = record {
   taken = v.taken;
@@ -34,16 +38,6 @@ source_state told faults v = record {
   told = told v.samples;
   faults = faults v.samples;
 }
-
--- The state stands for the source: it is the source's own, but for samples to come that it need not tell, since samples that
--- told nothing may begin to tell.
-pub record IsStateOf {S : Type 0} (told : S → Option (List ℕ)) (faults : S → ℕ) (v : SourceView S) (s : SourceState) : Type 0 where
-  pub own : s ≡ record (source_state told faults v) { told = s.told }
-  pub tells : IfSome s.told (λ left. told v.samples ≡ Some left)
-
--- whatever state stands for the source before a call, one stands for it afterwards, and this is so of both
-abbrev pub Goes : {S : Type 0} → (S → Option (List ℕ)) → (S → ℕ) → SourceView S → SourceView S → (SourceState → SourceState → Type 0) → Type 0
-Goes told faults old new P = (s : SourceState) → IsStateOf told faults old s → (now : SourceState) × IsStateOf told faults new now × P s now
 
 -- a source as it is opened over these samples
 abbrev pub opened_view : {S : Type 0} → SourceRow → Tail → S → SourceView S
@@ -96,6 +90,9 @@ pub record HasStarted {T : Type 0} (row : SourceRow) (result : Result T SourceRe
   pub acts : List SourceAct
   pub start : Start row old acts (without_bytes result)
   pub state : new ≡ source_after_all row old acts
+  -- HealthFailed comes exactly where there is an alarm among the samples read now, at the first one; WantOfEntropy exactly where
+  -- a read gave none, with what the start-up still lacked; SourceFault exactly where a read failed
+  pub outcome : Outcome old.taken (alarm_in row.cutoffs [] (samples_of acts)) (row.startup - length (samples_of acts)) acts (without_bytes result)
 
 -- the answer to a draw of n bytes by the bytes of its blocks
 abbrev pub AnswersDraw : SourceState → SourceState → ℕ → List ℕ → Result (List ℕ) SourceRefusal → Result Range SourceRefusal → Type 0
@@ -110,3 +107,7 @@ pub record HasDrawn (row : SourceRow) (n : ℕ) (out : List ℕ) (result : Resul
   pub draw : Drawn row (found_in row.cutoffs old.tail) old (n ∷ []) acts bytes
   pub state : new ≡ source_after_all row old acts
   pub answer : AnswersDraw old new n out bytes result
+  -- which refusal comes, as of a start; the first alarm is told by what the tests kept of the samples before, and what is missing
+  -- is what the present block still lacked
+  pub outcome : (t : Tail) → old.tail ≡ Some t
+      → Outcome old.taken (alarm_from row.cutoffs t (samples_of acts)) (lacking_after (need_of_block row) (need_of_block row) acts) acts bytes

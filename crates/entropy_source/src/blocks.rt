@@ -2,7 +2,7 @@
 ghost use Rattle.std.specs.Prelude.{◌≡◌, ◌≤◌, ◌<◌, ◌+◌, ◌-◌, ◌*◌, ◌^◌, [], ◌∷◌, ◌++◌, length, take, IsSome, OnOk, IfOk};
 ghost use Rattle.conditioner.specs.Conditioned.{block_len};
 ghost use Rattle.entropy_source.specs.Source.{blocks_for, need_of, need_of_block};
-ghost use Rattle.entropy_source.specs.Views.{Goes, HasDrawn};
+ghost use Rattle.entropy_source.specs.Views.{source_state, HasDrawn};
 ghost use Rattle.entropy_source.specs.Steps.{Conditions, MakesBlock, Fills, EndsDraw};
 
 use crate::answers::{Range, SourceRefusal};
@@ -17,7 +17,7 @@ impl<S: Samples> Intake<S> {
         requires buffer { length buffer.old ≡ 4096 }
         requires room { self.old.taken + need_of_block self.old.row ≤ 2 ^ 60 }
         requires tested { IsSome self.old.tail }
-        ensures comes { Goes S.told S.faults self.old self.new (Conditions self.old.row result) }
+        ensures comes { Conditions self.old.row result (source_state S.told S.faults self.old) (source_state S.told S.faults self.new) }
         ensures tested { OnOk result (IsSome self.new.tail) }
         ensures taken { OnOk result (self.new.taken ≡ self.old.taken + need_of_block self.old.row) }
         ensures fewer { OnOk result (self.new.blocks < self.new.taken) }
@@ -27,10 +27,9 @@ impl<S: Samples> Intake<S> {
         let mut block = Block::start(self.row.cond, total);
         let mut lacks = total;
         while lacks > 0 {
-            let piece = &mut buffer[..lacks.min(4096) as usize];
-            match self.read(lacks, piece) {
+            match self.read(lacks, buffer) {
                 Ok(count) => {
-                    block.push(&piece[..count]);
+                    block.push(&buffer[..count]);
                     lacks -= count as u32;
                 }
                 Err(why) => return Err(why),
@@ -52,7 +51,7 @@ impl<S: Samples> Intake<S> {
         requires buffer { length buffer.old ≡ 4096 }
         requires room { self.old.taken + need_of_block self.old.row ≤ 2 ^ 60 }
         requires tested { IsSome self.old.tail }
-        ensures makes { Goes S.told S.faults self.old self.new (MakesBlock self.old.row result) }
+        ensures makes { MakesBlock self.old.row result (source_state S.told S.faults self.old) (source_state S.told S.faults self.new) }
         ensures len { IfOk result (λ block. length block ≡ block_len self.old.row.cond) }
         ensures tested { OnOk result (IsSome self.new.tail) }
         ensures taken { OnOk result (self.new.taken ≡ self.old.taken + need_of_block self.old.row) }
@@ -73,7 +72,8 @@ impl<S: Samples> Intake<S> {
         requires few { length out.old ≤ 4096 }
         requires room { self.old.taken + blocks_for self.old.row (length out.old) * need_of_block self.old.row ≤ 2 ^ 60 }
         requires tested { IsSome self.old.tail }
-        ensures fills { Goes S.told S.faults self.old self.new (Fills self.old.row (blocks_for self.old.row (length out.old)) out.new result) }
+        ensures fills { Fills self.old.row (blocks_for self.old.row (length out.old)) out.new result
+            (source_state S.told S.faults self.old) (source_state S.told S.faults self.new) }
         ensures row { self.new.row ≡ self.old.row }
     {
         let len = block_len(self.row.cond);
@@ -93,8 +93,9 @@ impl<S: Samples> Intake<S> {
         requires few { length out.old ≤ 4096 }
         requires room { self.old.taken + need_of self.old.row (length out.old ∷ []) ≤ 2 ^ 60 }
         requires tested { IsSome self.old.tail }
-        ensures acts { Goes S.told S.faults self.old self.new
-            (λ s now. HasDrawn self.old.row (length out.old) out.new result s now × EndsDraw self.old.row (length out.old) result s now) }
+        ensures acts { HasDrawn self.old.row (length out.old) out.new result
+            (source_state S.told S.faults self.old) (source_state S.told S.faults self.new) }
+        ensures ends { EndsDraw self.old.row (length out.old) result (source_state S.told S.faults self.old) (source_state S.told S.faults self.new) }
         ensures row { self.new.row ≡ self.old.row }
     {
         let from = self.taken();

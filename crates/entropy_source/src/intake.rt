@@ -2,7 +2,7 @@
 ghost use Rattle.std.specs.Prelude.{◌≡◌, ◌≤◌, ◌<◌, ◌+◌, ◌-◌, ◌^◌, ℕ, List, [], ◌∷◌, Some, length, take, min, IsSome, OnOk, IfOk};
 ghost use Rattle.health_tests.specs.Numbers.{no_tail};
 ghost use Rattle.entropy_source.specs.Source.{need_of};
-ghost use Rattle.entropy_source.specs.Views.{IsSource, opened_view, Goes, HasStarted};
+ghost use Rattle.entropy_source.specs.Views.{IsSource, opened_view, source_state, HasStarted};
 ghost use Rattle.entropy_source.specs.Steps.{Comes, WarmsUp, EndsStart};
 
 use crate::answers::{SourceMode, SourceRefusal, SourceRow};
@@ -107,17 +107,19 @@ impl<S: Samples> Intake<S> {
         blocks * u64::from(need(self.row.cond, self.row.num, self.row.den))
     }
 
-    // One read for what a block or the start-up lacks. Its samples are counted and tested.
-    pub fn read(&mut self, lacks: u32, piece: &mut [u8]) -> Result<usize, SourceRefusal>
-        requires asked { length piece.old ≡ min 4096 lacks }
+    // One read for what a block or the start-up lacks, to the front of the buffer. Its samples are counted and tested.
+    pub fn read(&mut self, lacks: u32, buffer: &mut [u8]) -> Result<usize, SourceRefusal>
+        requires buffer { length buffer.old ≡ 4096 }
         requires lacking { 0 < lacks }
         requires room { self.old.taken + lacks ≤ 2 ^ 60 }
         requires tested { IsSome self.old.tail }
-        ensures comes { Goes S.told S.faults self.old self.new (Comes self.old.row lacks (λ count. lacks - count) (λ count. take count piece.new) result) }
-        ensures count { IfOk result (λ count. (0 < count) × (count ≤ length piece.old)) }
+        ensures comes { Comes self.old.row lacks (λ count. lacks - count) (λ count. take count buffer.new) result
+            (source_state S.told S.faults self.old) (source_state S.told S.faults self.new) }
+        ensures count { IfOk result (λ count. (0 < count) × (count ≤ min 4096 lacks)) }
         ensures row { self.new.row ≡ self.old.row }
     {
-        let count = match self.samples.read(piece) {
+        let asked = lacks.min(4096) as usize;
+        let count = match self.samples.read(&mut buffer[..asked]) {
             Ok(count) => count,
             Err(_) => {
                 return Err(SourceRefusal::SourceFault {
@@ -130,7 +132,7 @@ impl<S: Samples> Intake<S> {
         }
         let from = self.taken;
         self.taken += count as u64;
-        match self.tests.step_all(&piece[..count]) {
+        match self.tests.step_all(&buffer[..count]) {
             None => Ok(count),
             Some(alarm) => {
                 let index = from + alarm.at as u64;
@@ -168,14 +170,13 @@ impl<S: Samples> Intake<S> {
         requires buffer { length buffer.old ≡ 4096 }
         requires room { self.old.taken + self.old.row.startup ≤ 2 ^ 60 }
         requires tested { IsSome self.old.tail }
-        ensures comes { Goes S.told S.faults self.old self.new (WarmsUp self.old.row result) }
+        ensures comes { WarmsUp self.old.row result (source_state S.told S.faults self.old) (source_state S.told S.faults self.new) }
         ensures tested { OnOk result (IsSome self.new.tail) }
         ensures row { self.new.row ≡ self.old.row }
     {
         let mut lacks = self.row.startup;
         while lacks > 0 {
-            let asked = lacks.min(4096) as usize;
-            match self.read(lacks, &mut buffer[..asked]) {
+            match self.read(lacks, buffer) {
                 Ok(count) => lacks -= count as u32,
                 Err(why) => return Err(why),
             }
@@ -187,7 +188,8 @@ impl<S: Samples> Intake<S> {
     pub fn start(&mut self, buffer: &mut [u8]) -> Result<(), SourceRefusal>
         requires buffer { length buffer.old ≡ 4096 }
         requires room { self.old.taken + self.old.row.startup ≤ 2 ^ 60 }
-        ensures acts { Goes S.told S.faults self.old self.new (λ s now. HasStarted self.old.row result s now × EndsStart self.old.row result s now) }
+        ensures acts { HasStarted self.old.row result (source_state S.told S.faults self.old) (source_state S.told S.faults self.new) }
+        ensures ends { EndsStart self.old.row result (source_state S.told S.faults self.old) (source_state S.told S.faults self.new) }
         ensures row { self.new.row ≡ self.old.row }
     {
         self.begin();

@@ -1,13 +1,15 @@
 // Laws on acts in a row: each is a function without a body, whose contract is the law. No program calls them; they tie the step
 // from state to state to what is counted on all acts, and an answer to its acts.
-ghost use Rattle.std.specs.Prelude.{◌≡◌, ◌+◌, ◌++◌, ℕ, List, [], length, drop, false, Option, Some, Result, Ok};
+ghost use Rattle.std.specs.Prelude.{◌≡◌, ◌+◌, ◌-◌, ◌*◌, ◌++◌, ℕ, List, [], length, drop, map, sum, false, Option, Some, Result, Ok};
 ghost use Rattle.std.specs.Option.{option_map};
 ghost use Rattle.health_tests.specs.Windows.{alarm_in};
 ghost use Rattle.health_tests.specs.Numbers.{tail_of, alarm_from};
 ghost use Rattle.health_tests.specs.declared.numbers.Tail.{Tail};
-ghost use Rattle.entropy_source.specs.Source.{SourceAct, SourceState, opened_source, source_after_all};
-ghost use Rattle.entropy_source.specs.Draws.{Draws, Drawn, Start, found_in};
-ghost use Rattle.entropy_source.specs.Counted.{samples_of, blocks_of, alarms_of, mode_after, tested_after, alarmed_after, behind};
+ghost use Rattle.health_tests.specs.declared.windows.Alarm.{Alarm};
+ghost use Rattle.conditioner.specs.Conditioned.{block_len};
+ghost use Rattle.entropy_source.specs.Source.{SourceAct, SourceState, opened_source, source_after_all, blocks_for, need_of_block};
+ghost use Rattle.entropy_source.specs.Draws.{Draws, Drawn, Start, portions, found_in};
+ghost use Rattle.entropy_source.specs.Counted.{samples_of, blocks_of, alarms_of, mode_after, tested_after, alarmed_after, lacking_after, behind};
 ghost use Rattle.entropy_source.specs.Outcomes.{Outcome};
 ghost use Rattle.entropy_source.specs.declared.answers.SourceRow.{SourceRow};
 ghost use Rattle.entropy_source.specs.declared.answers.SourceRefusal.{SourceRefusal};
@@ -32,16 +34,18 @@ pub fn states_are_counted()
 {}
 
 /// Which answer a start gives: HealthFailed exactly where there is an alarm among the samples that it read, at the first one,
-/// WantOfEntropy exactly where a read gave none, and SourceFault exactly where a read failed.
+/// WantOfEntropy exactly where a read gave none, with what the start-up still lacked, and SourceFault exactly where a read failed.
 pub fn starts_end_by_their_reads()
     ensures { (row : SourceRow) (s : SourceState) (acts : List SourceAct) (result : Result (List ℕ) SourceRefusal) → Start row s acts result →
-        Outcome s.taken (alarm_in row.cutoffs [] (samples_of acts)) acts result }
+        Outcome s.taken (alarm_in row.cutoffs [] (samples_of acts)) (row.startup - length (samples_of acts)) acts result }
 {}
 
-/// The same of a draw, whose alarm is the first one behind what the tests kept of the samples before.
+/// The same of a draw, whose alarm is the first one behind what the tests kept of the samples before, and where what was missing
+/// is what the present block still lacked.
 pub fn draws_end_by_their_reads()
     ensures { (row : SourceRow) (t : Tail) (s : SourceState) (wants : List ℕ) (acts : List SourceAct) (result : Result (List ℕ) SourceRefusal) →
-        Drawn row (found_in row.cutoffs (Some t)) s wants acts result → Outcome s.taken (alarm_from row.cutoffs t (samples_of acts)) acts result }
+        Drawn row (found_in row.cutoffs (Some t)) s wants acts result →
+        Outcome s.taken (alarm_from row.cutoffs t (samples_of acts)) (lacking_after (need_of_block row) (need_of_block row) acts) acts result }
 {}
 
 /// A draw of blocks that was answered, and another from the state that it left: together they are one draw of all the blocks,
@@ -52,4 +56,23 @@ pub fn draws_join()
         Draws row (found_in row.cutoffs (Some t)) n s [] [] acts (Ok mid) →
         Draws row (found_in row.cutoffs (source_after_all row s acts).tail) m (source_after_all row s acts) [] [] more end →
         Draws row (found_in row.cutoffs (Some t)) (n + m) s [] [] (acts ++ more) (behind mid end) }
+{}
+
+/// A draw of blocks that was answered gives all bytes of its blocks, behind those given before.
+pub fn draws_give_whole_blocks()
+    ensures { (row : SourceRow) (found : List ℕ → List ℕ → Option Alarm) (n : ℕ) (s : SourceState) (read : List ℕ) (out : List ℕ)
+        (acts : List SourceAct) (bytes : List ℕ) → Draws row found n s read out acts (Ok bytes) → length bytes ≡ length out + n * block_len row.cond }
+{}
+
+/// Draws of several lengths, one that was answered and another from the state that it left, are one draw of all the lengths, and
+/// each length gets of the bytes of both what it gets of its own draw's.
+pub fn portions_join()
+    ensures drawn { (row : SourceRow) (t : Tail) (xs : List ℕ) (ys : List ℕ) (s : SourceState) (acts : List SourceAct) (mid : List ℕ)
+        (more : List SourceAct) (end : Result (List ℕ) SourceRefusal) → s.tail ≡ Some t →
+        Drawn row (found_in row.cutoffs (Some t)) s xs acts (Ok mid) →
+        Drawn row (found_in row.cutoffs (source_after_all row s acts).tail) (source_after_all row s acts) ys more end →
+        Drawn row (found_in row.cutoffs (Some t)) s (xs ++ ys) (acts ++ more) (behind mid end) }
+    ensures portions { (row : SourceRow) (xs : List ℕ) (ys : List ℕ) (bs : List ℕ) (cs : List ℕ) →
+        length bs ≡ sum (map (λ n. blocks_for row n) xs) * block_len row.cond →
+        portions row (xs ++ ys) (bs ++ cs) ≡ portions row xs bs ++ portions row ys cs }
 {}

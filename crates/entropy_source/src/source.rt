@@ -3,7 +3,7 @@ ghost use Rattle.std.specs.Prelude.{◌≡◌, ◌≤◌, ◌<◌, ◌+◌, ◌^
 ghost use Rattle.rbg_bytes.specs.Streams.{Rose};
 ghost use Rattle.health_tests.specs.Numbers.{no_tail};
 ghost use Rattle.entropy_source.specs.Source.{need_of, need_of_block};
-ghost use Rattle.entropy_source.specs.Views.{opened_view, IsSource, Goes, HasStarted, HasDrawn, error_of};
+ghost use Rattle.entropy_source.specs.Views.{opened_view, source_state, IsSource, HasStarted, HasDrawn, error_of};
 ghost use Rattle.entropy_source.specs.Causes.{IfSpent, IfInError, IfFault, IfHealthFailed, IfWant};
 
 use crate::answers::{Range, SourceMode, SourceRefusal, SourceRow};
@@ -53,7 +53,8 @@ impl<S: Samples> EntropySource<S> {
     pub fn start(&mut self) -> Result<(), SourceRefusal>
         ensures spent { 2 ^ 60 < self.old.taken + self.old.row.startup →
             (result ≡ Err (SourceRefusal.SourceSpent self.old.taken self.old.row.startup)) × (self.new ≡ self.old) }
-        ensures acts { self.old.taken + self.old.row.startup ≤ 2 ^ 60 → Goes S.told S.faults self.old self.new (HasStarted self.old.row result) }
+        ensures acts { self.old.taken + self.old.row.startup ≤ 2 ^ 60 →
+            HasStarted self.old.row result (source_state S.told S.faults self.old) (source_state S.told S.faults self.new) }
         ensures row { self.new.row ≡ self.old.row }
 
         // What is so after each answer, and with it the cause of each refusal.
@@ -94,7 +95,8 @@ impl<S: Samples> EntropySource<S> {
             IfSome (error_of self.old.mode) (λ cause. (result ≡ Err (SourceRefusal.InError cause)) × (self.new ≡ self.old) × (out.new ≡ out.old)) }
         ensures acts { 0 < length out.old → self.old.taken + need_of self.old.row (length out.old ∷ []) ≤ 2 ^ 60 →
             self.old.mode ≡ SourceMode.Running →
-            Goes S.told S.faults self.old self.new (HasDrawn self.old.row (length out.old) out.new result) }
+            HasDrawn self.old.row (length out.old) out.new result
+            (source_state S.told S.faults self.old) (source_state S.told S.faults self.new) }
         ensures row { self.new.row ≡ self.old.row }
 
         // What is so after each answer, and with it the cause of each refusal.

@@ -1,10 +1,10 @@
 -- Sources that are started one after another.
-use Rattle.std.proofs.Common.{◌≡◌, ◌≢◌, ◌≤◌, ◌<◌, ℕ, zero, suc, ◌+◌, List, [], ◌∷◌, length, map, drop, take, get_or, refl, sym, ap, ◌∙◌, subst, arith, inl, inr}
+use Rattle.std.proofs.Common.{◌≡◌, ◌≢◌, ◌≤◌, ◌<◌, ℕ, zero, suc, ◌+◌, List, [], ◌∷◌, length, drop, take, get_or, refl, sym, ap, ◌∙◌, subst, arith, inl, inr}
 use Rattle.std.specs.Prelude.{Option, Some, unwrap_or, slice_get}
 use Rattle.std.proofs.Math.ListN.{set, length-set}
 use Rattle.std.proofs.lemmas.Bool.{cases_lt}
 use Rattle.std.proofs.lemmas.Option.{slice_get_past, slice_get-get_or}
-use Rattle.std.proofs.lemmas.List.{get_or-set_same, get_or-set_other, get_or-take, length-take, length-map}
+use Rattle.std.proofs.lemmas.List.{get_or-set_same, get_or-set_other, get_or-take, length-take}
 use Rattle.tree_config.specs.declared.plan.SourcePlan.{SourcePlan}
 use Rattle.rbgtree.specs.Check.{IsTried, AreTriedUpTo, AreTried}
 use Rattle.rbgtree.specs.declared.printed.SourceLine.{SourceLine}
@@ -16,11 +16,11 @@ pub nothing : {S : Type 0} (xs : List S) → length xs ≡ 0 → xs ≡ []
 nothing [] h = refl
 nothing (x ∷ xs) h = absurd (omega arith)
 
-at_drop : {S : Type 0} (f : S → Option (List ℕ)) (xs : List S) (i : ℕ) (x : S) (rest : List S) → drop i xs ≡ x ∷ rest → slice_get (map f xs) i ≡ Some (f x)
-at_drop f [] zero x rest h = absurd cc
-at_drop f [] (suc i) x rest h = absurd cc
-at_drop f (y ∷ xs) zero x rest h = ap (λ (l : List _). Some (f (get_or l 0 y))) h
-at_drop f (y ∷ xs) (suc i) x rest h = at_drop f xs i x rest h
+at_drop : {S : Type 0} (xs : List S) (i : ℕ) (x : S) (rest : List S) → drop i xs ≡ x ∷ rest → slice_get xs i ≡ Some x
+at_drop [] zero x rest h = absurd cc
+at_drop [] (suc i) x rest h = absurd cc
+at_drop (y ∷ xs) zero x rest h = ap (λ (l : List _). Some (get_or l 0 y)) h
+at_drop (y ∷ xs) (suc i) x rest h = at_drop xs i x rest h
 
 pub drop_next : {S : Type 0} (xs : List S) (i : ℕ) (x : S) (rest : List S) → drop i xs ≡ x ∷ rest → drop (i + 1) xs ≡ rest
 drop_next [] zero x rest h = absurd cc
@@ -57,20 +57,20 @@ set_else lines j i line other = elim (cases_lt j (length lines)) [
 ]
 
 -- one source more
-pub tried_more : {S : Type 0} (told : S → Option (List ℕ)) (plans : List SourcePlan) (opened : List S) (lines : List SourceLine) (i : ℕ) (plan : SourcePlan) (samples : S) (rest : List S) (line : SourceLine)
-    → AreTriedUpTo i plans (map told opened) lines → slice_get plans i ≡ Some plan → drop i opened ≡ samples ∷ rest → i < length lines → IsTried i plan (told samples) line
-    → AreTriedUpTo (i + 1) plans (map told opened) (set lines i line)
-tried_more told plans opened lines i plan samples rest line before plan_is samples_are within tried j p t l less p_is t_is l_is = elim (cases_lt j i) [
+pub tried_more : {S : Type 0} (told : S → Option (List ℕ)) (faults : S → ℕ) (plans : List SourcePlan) (opened : List S) (lines : List SourceLine) (i : ℕ) (plan : SourcePlan) (samples : S) (rest : List S) (line : SourceLine)
+    → AreTriedUpTo told faults i plans opened lines → slice_get plans i ≡ Some plan → drop i opened ≡ samples ∷ rest → i < length lines → IsTried told faults i plan samples line
+    → AreTriedUpTo told faults (i + 1) plans opened (set lines i line)
+tried_more {S} told faults plans opened lines i plan samples rest line before plan_is samples_are within tried j p x l less p_is x_is l_is = elim (cases_lt j i) [
   | inl earlier ↦
       let other : j ≢ i = λ (e : j ≡ i). absurd (omega (arith, e)) in
-      before j p t l earlier p_is t_is (sym (set_else lines j i line other) ∙ l_is)
+      before j p x l earlier p_is x_is (sym (set_else lines j i line other) ∙ l_is)
   | inr not_earlier ↦
       let here : i ≡ j = omega arith in
       let plan_same : plan ≡ p = same plan p (sym plan_is ∙ (ap (λ (n : ℕ). slice_get plans n) here ∙ p_is)) in
-      let told_same : told samples ≡ t = same (told samples) t (sym (at_drop told opened i samples rest samples_are) ∙ (ap (λ (n : ℕ). slice_get (map told opened) n) here ∙ t_is)) in
+      let samples_same : samples ≡ x = same samples x (sym (at_drop opened i samples rest samples_are) ∙ (ap (λ (n : ℕ). slice_get opened n) here ∙ x_is)) in
       let line_same : line ≡ l = same line l (sym (set_here lines i line within) ∙ (ap (λ (n : ℕ). slice_get (set lines i line) n) here ∙ l_is)) in
-      subst (λ (n : ℕ). IsTried n p t l) here (subst (λ (x : SourceLine). IsTried i p t x) line_same (subst (λ (o : Option (List ℕ)). IsTried i p o line) told_same
-      (subst (λ (q : SourcePlan). IsTried i q (told samples) line) plan_same tried)))
+      subst (λ (n : ℕ). IsTried told faults n p x l) here (subst (λ (y : SourceLine). IsTried told faults i p x y) line_same
+      (subst (λ (s : S). IsTried told faults i p s line) samples_same (subst (λ (q : SourcePlan). IsTried told faults i q samples line) plan_same tried)))
 ]
 
 taken_at : (lines : List SourceLine) (n j : ℕ) (line : SourceLine) → n ≤ length lines → j < n → slice_get (take n lines) j ≡ Some line → slice_get lines j ≡ Some line
@@ -80,16 +80,16 @@ taken_at lines n j line enough less is =
     slice_get-get_or lines j line long ∙ (ap Some (sym (get_or-take n lines j line less)) ∙ (sym (slice_get-get_or (take n lines) j line short) ∙ is))
 
 -- all sources
-pub tried_all : {S : Type 0} (told : S → Option (List ℕ)) (plans : List SourcePlan) (opened : List S) (lines : List SourceLine) (i : ℕ)
-    → AreTriedUpTo i plans (map told opened) lines → length opened ≡ length plans → drop i opened ≡ [] → length plans ≤ length lines
-    → AreTried plans (map told opened) (take (length plans) lines)
-tried_all told plans opened lines i before count end enough =
+pub tried_all : {S : Type 0} (told : S → Option (List ℕ)) (faults : S → ℕ) (plans : List SourcePlan) (opened : List S) (lines : List SourceLine) (i : ℕ)
+    → AreTriedUpTo told faults i plans opened lines → length opened ≡ length plans → drop i opened ≡ [] → length plans ≤ length lines
+    → AreTried told faults plans opened (take (length plans) lines)
+tried_all {S} told faults plans opened lines i before count end enough =
     let past : length plans ≤ i = let done = drop_end opened i end in omega (arith, done, count) in
     record {
-      samples = length-map opened told ∙ count;
+      samples = count;
       count = omega (arith, length-take (length plans) lines, enough);
-      each = λ (j : ℕ) (p : SourcePlan) (t : Option (List ℕ)) (l : SourceLine) (less : j < length plans) (p_is : slice_get plans j ≡ Some p)
-          (t_is : slice_get (map told opened) j ≡ Some t) (l_is : slice_get (take (length plans) lines) j ≡ Some l).
+      each = λ (j : ℕ) (p : SourcePlan) (x : S) (l : SourceLine) (less : j < length plans) (p_is : slice_get plans j ≡ Some p)
+          (x_is : slice_get opened j ≡ Some x) (l_is : slice_get (take (length plans) lines) j ≡ Some l).
           let earlier : j < i = omega (arith, past, less) in
-          before j p t l earlier p_is t_is (taken_at lines (length plans) j l enough less l_is);
+          before j p x l earlier p_is x_is (taken_at lines (length plans) j l enough less l_is);
     }

@@ -3,8 +3,8 @@
 use Rattle.std.specs.Prelude.{◌≡◌, ◌<◌, ℕ, ◌==◌, if◌then◌else◌, List, [], ◌∷◌, ◌++◌, length, map, flat_map, slice_get, Option, Some, None, Result, Ok, Err}
 use Rattle.std.specs.Io.KnownBytes.{Appends}
 use Rattle.rbg_bytes.specs.Streams.{Rose, AppendsFront}
-use Rattle.entropy_source.specs.Source.{SourceAct, source_after_all, opened_source}
-use Rattle.entropy_source.specs.Draws.{Start}
+use Rattle.entropy_source.specs.Source.{opened_source}
+use Rattle.entropy_source.specs.Views.{SourceView, source_state, HasStarted}
 use Rattle.entropy_source.specs.declared.answers.SourceRow.{SourceRow}
 use Rattle.entropy_source.specs.declared.answers.SourceRefusal.{SourceRefusal}
 use Rattle.tree_config.specs.Tree.{Tree, Plan}
@@ -39,25 +39,25 @@ HasOpenCause before now result = now ≡ before
 abbrev pub row_of : SourcePlan → SourceRow
 row_of plan = record { num = plan.num; den = plan.den; cutoffs = plan.cutoffs; startup = plan.startup; cond = plan.cond }
 
--- source j was started once, over samples that told this and had failed so often, with these acts, and this is printed of it
-pub record IsTried (j : ℕ) (plan : SourcePlan) (told : Option (List ℕ)) (line : SourceLine) : Type 0 where
-  pub faults : ℕ
-  pub acts : List SourceAct
-  pub result : Result (List ℕ) SourceRefusal
-  pub start : Start (row_of plan) (opened_source told faults) acts result
-  pub printed : line ≡ source_line j plan (source_after_all (row_of plan) (opened_source told faults) acts).taken result
+-- One start of source j, over these samples, and what is printed of it. The state of the source after that start, and with it the
+-- count of faults of its samples, is that after the acts of the start. What is read of the samples later is not said.
+pub record IsTried {S : Type 0} (told : S → Option (List ℕ)) (faults : S → ℕ) (j : ℕ) (plan : SourcePlan) (samples : S) (line : SourceLine) : Type 0 where
+  pub after : SourceView S
+  pub result : Result (Unit {0}) SourceRefusal
+  pub started : HasStarted (row_of plan) result (opened_source (told samples) (faults samples)) (source_state told faults after)
+  pub printed : line ≡ source_line j plan after.taken result
 
--- each of the first n sources was started once
-abbrev pub AreTriedUpTo : ℕ → List SourcePlan → List (Option (List ℕ)) → List SourceLine → Type 0
-AreTriedUpTo n plans told lines =
-    (j : ℕ) (plan : SourcePlan) (samples : Option (List ℕ)) (line : SourceLine) → j < n
-    → slice_get plans j ≡ Some plan → slice_get told j ≡ Some samples → slice_get lines j ≡ Some line → IsTried j plan samples line
+-- one start of each of the first n sources
+abbrev pub AreTriedUpTo : {S : Type 0} → (S → Option (List ℕ)) → (S → ℕ) → ℕ → List SourcePlan → List S → List SourceLine → Type 0
+AreTriedUpTo {S} told faults n plans opened lines =
+    (j : ℕ) (plan : SourcePlan) (samples : S) (line : SourceLine) → j < n
+    → slice_get plans j ≡ Some plan → slice_get opened j ≡ Some samples → slice_get lines j ≡ Some line → IsTried told faults j plan samples line
 
--- each source was started once
-pub record AreTried (plans : List SourcePlan) (told : List (Option (List ℕ))) (lines : List SourceLine) : Type 0 where
-  pub samples : length told ≡ length plans
+-- one start of each source
+pub record AreTried {S : Type 0} (told : S → Option (List ℕ)) (faults : S → ℕ) (plans : List SourcePlan) (opened : List S) (lines : List SourceLine) : Type 0 where
+  pub samples : length opened ≡ length plans
   pub count : length lines ≡ length plans
-  pub each : AreTriedUpTo (length plans) plans told lines
+  pub each : AreTriedUpTo told faults (length plans) plans opened lines
 
 -- the least source whose start was refused
 abbrev pub first_refused : List SourceLine → Option ℕ
@@ -80,24 +80,24 @@ HasNoPlan files name Memory = Unit {0}
 HasNoPlan files name (OpenFault count) = Unit {0}
 HasNoPlan files name status = ⊥
 
--- the samples of a plan's sources were opened, and each source started once
-pub record HasTried (tree : Tree) (before now : Option Recordings) (lines : List SourceLine) : Type 0 where
-  pub told : List (Option (List ℕ))
-  pub opened : OpensAll before now (map (λ (source : SourcePlan). source.samples) tree.sources) told
-  pub tried : AreTried tree.sources told lines
+-- the samples of a plan's sources were opened, and there is one start of each source
+pub record HasTried {S : Type 0} (told : S → Option (List ℕ)) (faults : S → ℕ) (tree : Tree) (before now : Option Recordings) (lines : List SourceLine) : Type 0 where
+  pub opened : List S
+  pub opens : OpensAll before now (map (λ (source : SourcePlan). source.samples) tree.sources) (map told opened)
+  pub tried : AreTried told faults tree.sources opened lines
 
 -- what became of a plan, by the status: nothing is printed where samples could not be opened; after a failed write a front of
 -- the lines is
-abbrev pub HasChecked : Tree → Option Recordings → Option Recordings → Option (List ℕ) → Option (List ℕ) → Status → Type 0
-HasChecked tree before now out_before out_now Memory = out_now ≡ out_before
-HasChecked tree before now out_before out_now (OpenFault count) = out_now ≡ out_before
-HasChecked tree before now out_before out_now Done =
-    (lines : List SourceLine) × HasTried tree before now lines × (first_refused lines ≡ None) × Appends out_before out_now (printed tree lines)
-HasChecked tree before now out_before out_now (SourceRefused source) =
-    (lines : List SourceLine) × HasTried tree before now lines × (first_refused lines ≡ Some source) × Appends out_before out_now (printed tree lines)
-HasChecked tree before now out_before out_now (WriteFault count) =
-    (lines : List SourceLine) × HasTried tree before now lines × AppendsFront out_before out_now (printed tree lines)
-HasChecked tree before now out_before out_now status = ⊥
+abbrev pub HasChecked : {S : Type 0} → (S → Option (List ℕ)) → (S → ℕ) → Tree → Option Recordings → Option Recordings → Option (List ℕ) → Option (List ℕ) → Status → Type 0
+HasChecked told faults tree before now out_before out_now Memory = out_now ≡ out_before
+HasChecked told faults tree before now out_before out_now (OpenFault count) = out_now ≡ out_before
+HasChecked told faults tree before now out_before out_now Done =
+    (lines : List SourceLine) × HasTried told faults tree before now lines × (first_refused lines ≡ None) × Appends out_before out_now (printed tree lines)
+HasChecked told faults tree before now out_before out_now (SourceRefused source) =
+    (lines : List SourceLine) × HasTried told faults tree before now lines × (first_refused lines ≡ Some source) × Appends out_before out_now (printed tree lines)
+HasChecked told faults tree before now out_before out_now (WriteFault count) =
+    (lines : List SourceLine) × HasTried told faults tree before now lines × AppendsFront out_before out_now (printed tree lines)
+HasChecked told faults tree before now out_before out_now status = ⊥
 
 -- the world's count rose where the file could not be read, and is as it was otherwise
 abbrev pub HasPlanCause : {T : Type 0} → ℕ → ℕ → Result T Status → Type 0

@@ -1,9 +1,7 @@
 -- The statuses by number and by line, and those of a session's ends.
 -- This project's own.
 use Rattle.std.specs.Prelude.{ℕ, true, false, List, [], ◌++◌, codes, decimal}
-use Rattle.tree_config.specs.Names.{field_text}
-use Rattle.tree_config.specs.declared.fault.Place.{Place}
-use Rattle.tree_config.specs.declared.fault.Place.TheVariants as places
+use Rattle.tree_config.specs.Names.{field_text, place_text}
 use Rattle.tree_config.specs.declared.fault.ConfigFault.{ConfigFault}
 use Rattle.tree_config.specs.declared.fault.ConfigFault.TheVariants.{TooLarge, BadToml, BadField, TooMany, NoSuchParent, Cycle, TooDeep, StrengthRises}
 use Rattle.rbgtree.specs.declared.ends.End.{End}
@@ -32,12 +30,6 @@ malformed_line offset why = codes "malformed frame at " ++ decimal offset ++ cod
 abbrev pub seed_short_line : ℕ → ℕ → ℕ → List ℕ
 seed_short_line node have need =
     codes "seed of node " ++ decimal node ++ codes " has " ++ decimal have ++ codes " of " ++ decimal need ++ codes " bytes\n"
-
--- a place of a configuration
-abbrev pub place_text : Place → List ℕ
-place_text places.Top = codes "top"
-place_text (places.Source j) = codes "source " ++ decimal j
-place_text (places.Node n) = codes "node " ++ decimal n
 
 -- what is wrong with a configuration
 abbrev pub fault_text : ConfigFault → List ℕ

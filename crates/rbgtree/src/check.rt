@@ -96,7 +96,7 @@ fn row_of(plan: &SourcePlan) -> SourceRow
 // Starts a source once, and says what is printed of it.
 fn try_source<S: Samples>(number: u8, plan: &SourcePlan, samples: S) -> SourceLine
     requires { IsSource plan.now }
-    ensures { IsTried number plan.now (S.told samples) result }
+    ensures { IsTried S.told S.faults number plan.now samples result }
 {
     let mut source = EntropySource::open(samples, row_of(plan));
     let answer = answer_of(number, source.start());
@@ -116,7 +116,7 @@ fn try_source<S: Samples>(number: u8, plan: &SourcePlan, samples: S) -> SourceLi
 pub fn try_all<S: Samples>(plan: &TreePlan, opened: Vec<S>, lines: &mut [SourceLine; MAX_SOURCES])
     requires samples { length opened.items ≡ length plan.now.sources }
     requires few { length plan.now.sources ≤ 4 }
-    ensures tried { AreTried plan.now.sources (map S.told opened.items) (take (length plan.now.sources) lines.new) }
+    ensures tried { AreTried S.told S.faults plan.now.sources opened.items (take (length plan.now.sources) lines.new) }
 {
     let mut number = 0u8;
     for samples in opened {

@@ -91,7 +91,7 @@ fn checked(
     Ok((status, output.written().to_vec(alloc)?))
 }
 
-const K1: [&str; 4] = ["version = 1\nopening = \"none\"\n", SOURCE, ROOT, CHILD];
+const ROOT_AND_CHILD: [&str; 4] = ["version = 1\nopening = \"none\"\n", SOURCE, ROOT, CHILD];
 
 #[test]
 fn each_source_is_started_once_and_printed(rt: HostRuntime) -> Result<(), Fail> {
@@ -108,7 +108,7 @@ fn each_source_is_started_once_and_printed(rt: HostRuntime) -> Result<(), Fail> 
         (failed, refused, "taken 0 code 12 a 1 b 0\n"),
         (ended, refused, "taken 1000 code 14 a 24 b 0\n"),
     ] {
-        let (ended, written) = checked(&rt, &K1, &[ramp], &PLAIN)?;
+        let (ended, written) = checked(&rt, &ROOT_AND_CHILD, &[ramp], &PLAIN)?;
         let line = format!(in rt.alloc();
             "source 0 rct 4 window 512 apt 257 startup 1024 block 40 {end}{NODE_LINES}"
         )?;
@@ -145,7 +145,7 @@ fn writes_that_fail_end_the_lines(rt: HostRuntime) -> Result<(), Fail> {
         (Outside { room: 100, ..PLAIN }, 100),
     ] {
         for ramp in [RAMP, ended] {
-            let (status, written) = checked(&rt, &K1, &[ramp], &outside)?;
+            let (status, written) = checked(&rt, &ROOT_AND_CHILD, &[ramp], &outside)?;
             assert_eq!(rt; status, Status::WriteFault { count: 1 });
             let extra = if ramp.len == 1000 && len > 0 && outside.room > 100 {
                 2
@@ -163,7 +163,7 @@ fn what_cannot_be_read_or_opened(rt: HostRuntime) -> Result<(), Fail> {
     let fault = Status::OpenFault { count: 1 };
     for world in [0, 1, 2] {
         let outside = Outside { world, ..PLAIN };
-        let (status, written) = checked(&rt, &K1, &[RAMP], &outside)?;
+        let (status, written) = checked(&rt, &ROOT_AND_CHILD, &[RAMP], &outside)?;
         assert_eq!(rt; status, fault);
         assert_eq!(rt; written.len(), 0);
     }
@@ -176,7 +176,7 @@ fn what_cannot_be_read_or_opened(rt: HostRuntime) -> Result<(), Fail> {
 fn configurations_with_faults(rt: HostRuntime) -> Result<(), Fail> {
     let zero = "[[node]]\nkind = \"child\"\ndrbg = \"ctr-aes-256\"\ninterval = 0\nparent = 0\n";
     let seven = "[[node]]\nkind = \"child\"\ndrbg = \"ctr-aes-256\"\ninterval = 1\nparent = 7\n";
-    let [head, source, root, _] = K1;
+    let [head, source, root, _] = ROOT_AND_CHILD;
     let interval = ConfigFault::BadField {
         place: Place::Node(1),
         field: Field::Interval,

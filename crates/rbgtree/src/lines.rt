@@ -1,6 +1,7 @@
 // The lines that say how the program ended, by their shapes.
 ghost use Rattle.std.specs.Prelude.{◌≡◌, ◌≤◌, ◌+◌, ◌++◌, length, codes, decimal};
-ghost use Rattle.rbgtree.specs.Statuses.{malformed_line, seed_short_line, place_text, fault_text};
+ghost use Rattle.tree_config.specs.Names.{place_text};
+ghost use Rattle.rbgtree.specs.Statuses.{malformed_line, seed_short_line, fault_text};
 
 use rbg_bytes::Line;
 use tree_config::{ConfigFault, Field, Place};

@@ -169,7 +169,7 @@ fn check<W: World, O: ByteSink>(
     world: &mut W,
     output: &mut O,
 ) -> Status
-    ensures checked { HasChecked plan.now (W.recordings world.old) (W.recordings world.new) (O.out output.old) (O.out output.new) result }
+    ensures checked { HasChecked W.Samples.told W.Samples.faults plan.now (W.recordings world.old) (W.recordings world.new) (O.out output.old) (O.out output.new) result }
     ensures files { W.files world.new ≡ W.files world.old }
     ensures cause { HasCheckCause (W.faults world.old) (W.faults world.new) (O.faults output.old) (O.faults output.new) result }
 {
@@ -210,7 +210,7 @@ pub fn run<W: World, I: ByteSource, O: ByteSink>(
     input: &mut I,
     output: &mut O,
 ) -> Status
-    ensures ran { Ran (map string_bytes words.now)
+    ensures ran { Ran W.Samples.told W.Samples.faults (map string_bytes words.now)
         (record { files = W.files world.old; recordings = W.recordings world.old; left = I.left input.old; out = O.out output.old; world = W.faults world.old; input = I.faults input.old; output = O.faults output.old })
         (record { files = W.files world.new; recordings = W.recordings world.new; left = I.left input.new; out = O.out output.new; world = W.faults world.new; input = I.faults input.new; output = O.faults output.new })
         result }

@@ -1,9 +1,8 @@
-use Rattle.std.proofs.Common.{◌≡◌, ◌+◌, ℕ, List}
+use Rattle.std.proofs.Common.{◌≡◌, ◌+◌}
 use Rattle.std.specs.Prelude.{IsSome}
-use Rattle.conditioner.specs.Holds.{HoldsSamples}
 use Rattle.entropy_source.specs.Source.{need_of_block}
-use Rattle.entropy_source.specs.Views.{Goes}
-use Rattle.entropy_source.specs.Steps.{Leads}
+use Rattle.entropy_source.specs.Views.{source_state}
+use Rattle.entropy_source.proofs.Conditioning.{Held}
 use Rattle.entropy_source.proofs.intake.Intake.condition.Given as goal
 
 abbrev pub invariant-loop-lacks : goal.invariant-loop-lacks
@@ -12,8 +11,7 @@ invariant-loop-lacks g l = record {
   tested : IsSome l.self.tail;
   taken : l.self.taken + l.lacks ≡ l.fn.self.taken + need_of_block l.fn.self.row;
   blocks : l.self.blocks ≡ l.fn.self.blocks;
-  leads : Goes g.S.Samples.told g.S.Samples.faults l.fn.self l.self
-      (λ s now. (got : List ℕ) × Leads l.fn.self.row s now (need_of_block l.fn.self.row) l.lacks got × HoldsSamples l.block l.fn.self.row.cond (need_of_block l.fn.self.row) got);
+  leads : Held l.fn.self.row (source_state g.S.Samples.told g.S.Samples.faults l.fn.self) (source_state g.S.Samples.told g.S.Samples.faults l.self) l.block l.lacks;
 }
 
 abbrev pub decreases-loop-lacks : goal.decreases-loop-lacks

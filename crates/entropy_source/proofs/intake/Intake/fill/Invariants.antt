@@ -1,6 +1,7 @@
 use Rattle.std.proofs.Common.{◌≡◌, ◌+◌, ◌*◌}
 use Rattle.std.specs.Prelude.{IsSome}
 use Rattle.entropy_source.specs.Source.{need_of_block}
+use Rattle.entropy_source.specs.Views.{source_state}
 use Rattle.entropy_source.proofs.Filling.{Filled}
 use Rattle.entropy_source.proofs.intake.Intake.fill.Given as goal
 
@@ -9,5 +10,6 @@ invariant-loop-i g l = record {
   row : l.self.row ≡ l.fn.self.row;
   tested : IsSome l.self.tail;
   taken : l.self.taken ≡ l.fn.self.taken + l.i * need_of_block l.fn.self.row;
-  filled : Filled g.S.Samples.told g.S.Samples.faults l.fn.self.row l.blocks l.len l.fn.self l.self l.i l.out;
+  filled : Filled l.fn.self.row (source_state g.S.Samples.told g.S.Samples.faults l.fn.self) l.blocks l.len
+      (source_state g.S.Samples.told g.S.Samples.faults l.self) l.i l.out;
 }

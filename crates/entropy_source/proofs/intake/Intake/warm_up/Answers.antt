@@ -1,6 +1,6 @@
 use Rattle.std.proofs.Common.{◌-◌, take, refl, ap, ◌∙◌, arith}
-use Rattle.entropy_source.specs.Views.{SourceView}
-use Rattle.entropy_source.proofs.Joining.{left_none, left_more, left_stops, read_facts}
+use Rattle.entropy_source.specs.Views.{SourceView, source_state}
+use Rattle.entropy_source.proofs.Joining.{left_none, left_more, left_stops, still_tested}
 use Rattle.entropy_source.proofs.intake.Intake.warm_up.Goals as goal
 
 pub loop-lacks-init : goal.loop-lacks-init
@@ -9,22 +9,25 @@ loop-lacks-init g c =
       row = refl;
       tested = c.requires.tested;
       room = omega (arith, c.requires.room, startup);
-      leads = left_none g.S.Samples.told g.S.Samples.faults c.args.self.now.row c.args.self.now.row.startup c.args.self.now c.self.inside.row.startup startup;
+      leads = left_none c.args.self.now.row (source_state g.S.Samples.told g.S.Samples.faults c.args.self.now) c.args.self.now.row.startup c.self.inside.row.startup startup;
     }
 
 pub returns-in-Err-clause-comes : goal.returns-in-Err-clause-comes
 returns-in-Err-clause-comes g c =
-    left_stops g.S.Samples.told g.S.Samples.faults c.args.self.now.row c.args.self.now.row.startup c.args.self.now c.loop-lacks.self c.read.new.self c.loop-lacks.lacks c.in-Err.why
-    c.loop-lacks.invariant.leads c.loop-lacks.invariant.row c.in-Err.ensures.comes
+    left_stops c.args.self.now.row (source_state g.S.Samples.told g.S.Samples.faults c.args.self.now) c.args.self.now.row.startup
+    (source_state g.S.Samples.told g.S.Samples.faults c.loop-lacks.self) (source_state g.S.Samples.told g.S.Samples.faults c.read.new.self) c.loop-lacks.self.row c.loop-lacks.invariant.row
+    c.loop-lacks.lacks c.in-Err.why c.loop-lacks.invariant.leads c.in-Err.ensures.comes
 
 pub loop-lacks-preserved : goal.loop-lacks-preserved
 loop-lacks-preserved g c =
     let e = c.in-Ok.ensures in
-    let facts = read_facts g.S.Samples.told g.S.Samples.faults c.loop-lacks.self.row c.loop-lacks.lacks (c.loop-lacks.lacks - c.in-Ok.count) (take c.in-Ok.count c.read.new.piece)
-    c.loop-lacks.self c.read.new.self e.comes c.loop-lacks.invariant.tested in record {
+    let old = source_state g.S.Samples.told g.S.Samples.faults c.loop-lacks.self in
+    let new = source_state g.S.Samples.told g.S.Samples.faults c.read.new.self in
+    let left = c.loop-lacks.lacks - c.in-Ok.count in
+    let got = take c.in-Ok.count c.read.new.buffer in record {
       row = e.row ∙ c.loop-lacks.invariant.row;
-      tested = facts.0;
-      room = omega (arith, facts.1, facts.2, c.loop-lacks.invariant.room);
-      leads = left_more g.S.Samples.told g.S.Samples.faults c.args.self.now.row c.args.self.now.row.startup c.args.self.now c.loop-lacks.self c.read.new.self
-          c.loop-lacks.lacks (c.loop-lacks.lacks - c.in-Ok.count) (take c.in-Ok.count c.read.new.piece) c.loop-lacks.invariant.leads c.loop-lacks.invariant.row e.comes;
+      tested = still_tested c.loop-lacks.self.row old new c.loop-lacks.lacks left got e.comes c.loop-lacks.invariant.tested;
+      room = omega (arith, e.comes.taken, e.comes.count, c.loop-lacks.invariant.room);
+      leads = left_more c.args.self.now.row (source_state g.S.Samples.told g.S.Samples.faults c.args.self.now) c.args.self.now.row.startup old new
+          c.loop-lacks.self.row c.loop-lacks.invariant.row c.loop-lacks.lacks left got c.loop-lacks.invariant.leads e.comes;
     }
