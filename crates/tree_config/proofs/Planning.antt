@@ -3,7 +3,7 @@ use Rattle.std.proofs.Common.{◌≡◌, ℕ, zero, suc, ◌+◌, ◌<◌, ◌�
 use Rattle.std.proofs.lemmas.Bool.{cases_lt}
 use Rattle.std.proofs.lemmas.List.{length-map}
 use Rattle.std.proofs.lemmas.Option.{same_Some, slice_get-map}
-use Rattle.toml.specs.Data.{Data, string, integer, boolean, float, datetime, array, table, no_items, item, Members, get_member}
+use Rattle.toml.specs.Data.{Data, array, item, Members, get_member}
 use Rattle.tree_config.specs.declared.fault.Field.{Field}
 use Rattle.tree_config.specs.declared.fault.Field.TheVariants as field
 use Rattle.tree_config.specs.declared.fault.Place.{Place}
@@ -12,7 +12,7 @@ use Rattle.tree_config.specs.declared.fault.ConfigFault.TheVariants.{TooMany}
 use Rattle.tree_config.specs.declared.plan.Origin.{Origin}
 use Rattle.tree_config.specs.declared.plan.Origin.TheVariants as origin
 use Rattle.tree_config.specs.declared.plan.NodeKind.{NodeKind}
-use Rattle.tree_config.specs.declared.plan.NodeKind.TheVariants.{Rbg1, Rbg2, Rbg3Xor, Rbg3Rs, Child}
+use Rattle.tree_config.specs.declared.plan.NodeKind.TheVariants.{Rbg1}
 use Rattle.tree_config.specs.declared.plan.NodePlan.{NodePlan}
 use Rattle.tree_config.specs.declared.plan.SourcePlan.{SourcePlan}
 use Rattle.tree_config.specs.declared.row.NodeRow.{NodeRow}
@@ -22,7 +22,7 @@ use Rattle.tree_config.specs.Keys.{has_only, top_keys}
 use Rattle.tree_config.specs.Source.{source_at}
 use Rattle.tree_config.specs.Node.{node_at}
 use Rattle.tree_config.specs.Top.{Top, top_at, tables, some_tables, are_tables, table_list, members_in}
-use Rattle.tree_config.specs.Rows.{Rows, rows_at, rows_of, document_of, at_place, at_most, each_at, sources_at, nodes_at, node_limit}
+use Rattle.tree_config.specs.Rows.{Rows, rows_at, rows_of, document_of, at_place, at_most, each_at, sources_at, nodes_at, source_limit, node_limit}
 use Rattle.tree_config.specs.Graph.{parent_at, LacksParent, IsNever}
 use Rattle.tree_config.specs.Tree.{Tree, tree_of, node_of_row, parents, parent_in}
 use Rattle.tree_config.specs.Planned.{IsSource, IsNode, IsPlanned, Fits, IsFile}
@@ -71,13 +71,7 @@ listed false x xs mss h = cc
 
 some_listed : (d : Data) (mss : List Members) → some_tables d ≡ Some mss → 1 ≤ length mss
 some_listed (array (item d ds)) mss h = listed (are_tables (item d ds)) (members_in d) (table_list ds) mss h
-some_listed (array no_items) mss h = cc
-some_listed (string s) mss h = cc
-some_listed (integer z) mss h = cc
-some_listed (float x) mss h = cc
-some_listed (boolean b) mss h = cc
-some_listed (datetime t) mss h = cc
-some_listed (table ms) mss h = cc
+some_listed d mss h = cc
 
 -- there is a node at least
 some_nodes : (ms : Members) (top : Top) → top_at ms ≡ Ok top → 1 ≤ length top.nodes
@@ -111,14 +105,14 @@ mapped None p h = cc
 mapped (Some r) p h = (r, refl, same_Some (node_of_row r) p h)
 
 -- the nodes that are read of tables are in range, where they lack no parent
-nodes_in : (count : ℕ) (mss : List Members) (rows : List NodeRow) → nodes_at count mss ≡ Ok rows → IsNever (LacksParent (parents (map node_of_row rows)))
+nodes_in : (version count : ℕ) (mss : List Members) (rows : List NodeRow) → nodes_at version count mss ≡ Ok rows → IsNever (LacksParent (parents (map node_of_row rows)))
     → (n : ℕ) (p : NodePlan) → slice_get (map node_of_row rows) n ≡ Some p → IsNode 1 count (length (map node_of_row rows)) p
-nodes_in count mss rows h never n p at =
+nodes_in version count mss rows h never n p at =
     let row = mapped (slice_get rows n) p (sym (slice_get-map node_of_row rows n) ∙ at) in
-    let from = each_read place.Node (node_at count) 0 mss rows h n row.0 row.1 in
+    let from = each_read place.Node (node_at version count) 0 mss rows h n row.0 row.1 in
     let within = link_within (map node_of_row rows) n p at never in
     let here = subst (λ (p : NodePlan). IfSome (parent_in p.origin) (λ q. q < length (map node_of_row rows))) (sym row.2) within in
-    subst (λ (p : NodePlan). IsNode 1 count (length (map node_of_row rows)) p) row.2 (node_in count (length (map node_of_row rows)) from.0 row.0 from.1 here)
+    subst (λ (p : NodePlan). IsNode 1 count (length (map node_of_row rows)) p) row.2 (node_in version count (length (map node_of_row rows)) from.0 row.0 from.1 here)
 
 sources_in : (version : ℕ) (mss : List Members) (sources : List SourcePlan) → sources_at version mss ≡ Ok sources
     → (n : ℕ) (s : SourcePlan) → slice_get sources n ≡ Some s → IsSource s
@@ -129,23 +123,23 @@ rows_in : (ms : Members) (rows : Rows) → rows_at ms ≡ Ok rows → IsNever (L
 unfolding rows_at
 rows_in ms rows h =
     let a = both (at_place place.Top (top_at ms)) _ rows h in
-    let b = both (at_most false 4 (length a.0.sources)) _ rows a.2 in
+    let b = both (at_most false (source_limit a.0.version) (length a.0.sources)) _ rows a.2 in
     let c = both (at_most true (node_limit a.0.version) (length a.0.nodes)) _ rows b.2 in
     let d = both (sources_at a.0.version a.0.sources) _ rows c.2 in
-    let e = both (nodes_at (length a.0.sources) a.0.nodes) _ rows d.2 in
+    let e = both (nodes_at a.0.version (length a.0.sources) a.0.nodes) _ rows d.2 in
     let made : Rows = record { version = a.0.version; opens_all = a.0.opens_all; sources = d.0; nodes = e.0 } in
     let some = some_nodes ms a.0 (placed place.Top (top_at ms) a.0 a.1) in
     let sources : length d.0 ≡ length a.0.sources = each_count place.Source (source_at a.0.version) 0 a.0.sources d.0 d.1 in
-    let nodes : length e.0 ≡ length a.0.nodes = each_count place.Node (node_at (length a.0.sources)) 0 a.0.nodes e.0 e.1 in
+    let nodes : length e.0 ≡ length a.0.nodes = each_count place.Node (node_at a.0.version (length a.0.sources)) 0 a.0.nodes e.0 e.1 in
     let all : length (map node_of_row e.0) ≡ length e.0 = length-map e.0 node_of_row in
-    let few_sources = few false 4 (length a.0.sources) _ b.0 refl b.1 in
-    let few_nodes = few true 63 (length a.0.nodes) _ c.0 refl c.1 in
+    let few_sources = few false (source_limit a.0.version) (length a.0.sources) _ b.0 refl b.1 in
+    let few_nodes = few true (node_limit a.0.version) (length a.0.nodes) _ c.0 refl c.1 in
     rw (← same_Ok _ made rows refl e.2) (λ never. record {
       few_sources = rw sources few_sources;
       some_nodes = rw (all ∙ nodes) some;
       few_nodes = rw (all ∙ nodes) few_nodes;
       source = sources_in a.0.version a.0.sources d.0 d.1;
-      node = λ n p at. rw sources (nodes_in (length a.0.sources) a.0.nodes e.0 e.1 never n p at);
+      node = λ n p at. rw sources (nodes_in a.0.version (length a.0.sources) a.0.nodes e.0 e.1 never n p at);
     })
 
 -- the plan of a text is in range
@@ -154,15 +148,11 @@ planned text rows h never = let table = both (document_of text) rows_at rows h i
 
 named_or_not : (o : Origin) → IsFile 1 o → IsFile 0 o
 named_or_not (origin.SeedFile name) h = (omega arith, h.1)
-named_or_not (origin.Source n) h = h
-named_or_not (origin.Parent n) h = h
+named_or_not o h = h
 
 fits_any : (sources nodes : ℕ) (kind : NodeKind) (o : Origin) → Fits 1 sources nodes kind o → Fits 0 sources nodes kind o
 fits_any sources nodes Rbg1 o h = named_or_not o h
-fits_any sources nodes Rbg2 o h = h
-fits_any sources nodes Rbg3Xor o h = h
-fits_any sources nodes Rbg3Rs o h = h
-fits_any sources nodes Child o h = h
+fits_any sources nodes kind o h = h
 
 -- a plan whose seed files have names is a plan
 pub any_plan : (tree : Tree) → IsPlanned 1 tree → IsPlanned 0 tree

@@ -1,15 +1,15 @@
 -- What is read of each table is in range.
-use Rattle.std.proofs.Common.{◌≡◌, ℕ, suc, ◌+◌, ◌-◌, ◌*◌, ◌^◌, ◌<◌, ◌≤◌, Bool, true, false, not, ◌&&◌, ◌||◌, nat_le, ◌==◌, IsTrue, zero, if◌then◌else◌, List, length, IfSome, Option, Some, None, Result, Ok, Err, refl, sym, ap, ◌∙◌, arith, subst, mul-le-mul, codes, pos, negsuc}
+use Rattle.std.proofs.Common.{◌≡◌, ℕ, suc, ◌+◌, ◌-◌, ◌*◌, ◌^◌, ◌<◌, ◌≤◌, Bool, true, false, not, ◌&&◌, ◌||◌, nat_le, ◌==◌, IsTrue, zero, if◌then◌else◌, List, length, IfSome, Option, Some, None, Result, Ok, Err, refl, sym, ap, ◌∙◌, arith, subst, mul-le-mul, codes, pos}
 use Rattle.std.specs.Int.{div_ceil}
 use Rattle.std.proofs.lemmas.Grind.{div_ceil_times}
 use Rattle.std.proofs.lemmas.Option.{same_Some}
 use Rattle.std.proofs.Math.Nat.{div-le_self}
 use Rattle.rbg_bytes.specs.declared.cond.Cond.TheVariants as cond
-use Rattle.toml.specs.Data.{Data, string, integer, boolean, float, datetime, array, table, Members, get_member, as_bool}
+use Rattle.toml.specs.Data.{Data, string, integer, boolean, Members, get_member, as_bool}
 use Rattle.tree_config.specs.declared.fault.Field.{Field}
 use Rattle.tree_config.specs.declared.fault.Field.TheVariants as field
 use Rattle.tree_config.specs.declared.plan.NodeKind.{NodeKind}
-use Rattle.tree_config.specs.declared.plan.NodeKind.TheVariants.{Rbg1, Rbg2, Rbg3Xor, Rbg3Rs, Child}
+use Rattle.tree_config.specs.declared.plan.NodeKind.TheVariants.{Rbg1, Child}
 use Rattle.tree_config.specs.declared.plan.SourcePlan.{SourcePlan}
 use Rattle.tree_config.specs.declared.row.RowOrigin.{RowOrigin}
 use Rattle.tree_config.specs.declared.row.RowOrigin.TheVariants as origin
@@ -45,22 +45,14 @@ present f read None x h = cc
 present f read (Some d) x h = (d, found f (read d) x h)
 
 -- a test of two bounds
-between : (least most n m : ℕ) (low high : Bool) → nat_le least n ≡ low → nat_le n most ≡ high → (if low && high then Some n else None) ≡ Some m
-    → (least ≤ m) × (m ≤ most)
-between least most n m true true a b h = let e = same_Some n m h in (grind arith, grind arith)
-between least most n m true false a b h = cc
-between least most n m false true a b h = cc
-between least most n m false false a b h = cc
+between : {A : Type 0} (least most n : ℕ) (x y : A) (low high : Bool) → nat_le least n ≡ low → nat_le n most ≡ high
+    → (if low && high then Some x else None) ≡ Some y → (x ≡ y) × (least ≤ n) × (n ≤ most)
+between least most n x y true true a b h = (same_Some x y h, grind arith, grind arith)
+between least most n x y low high a b h = cc
 
 in_range : (least most : ℕ) (d : Data) (n : ℕ) → number_within least most d ≡ Some n → (least ≤ n) × (n ≤ most)
-in_range least most (integer (pos m)) n h = between least most m n (nat_le least m) (nat_le m most) refl refl h
-in_range least most (integer (negsuc m)) n h = cc
-in_range least most (string s) n h = cc
-in_range least most (float x) n h = cc
-in_range least most (boolean b) n h = cc
-in_range least most (datetime t) n h = cc
-in_range least most (array ds) n h = cc
-in_range least most (table ms) n h = cc
+in_range least most (integer (pos m)) n h = let at = between least most m m n (nat_le least m) (nat_le m most) refl refl h in rw (← at.0) (at.1, at.2)
+in_range least most d n h = cc
 
 number_in : (f : Field) (least most : ℕ) (o : Option Data) (n : ℕ) → required f (number_within least most) o ≡ Ok n → (least ≤ n) × (n ≤ most)
 number_in f least most o n h = let at = present f (number_within least most) o n h in in_range least most at.0 n at.1
@@ -70,22 +62,10 @@ number_or_in : (default least most : ℕ) (f : Field) (o : Option Data) (n : ℕ
 number_or_in default least most f None n low high h = rw (← same_Ok _ default n refl h) (low, high)
 number_or_in default least most f (Some d) n low high h = in_range least most d n (found f (number_within least most d) n h)
 
--- a test of the bounds of a length
-between_texts : (least most : ℕ) (s t : List ℕ) (low high : Bool) → nat_le least (length s) ≡ low → nat_le (length s) most ≡ high
-    → (if low && high then Some s else None) ≡ Some t → (least ≤ length t) × (length t ≤ most)
-between_texts least most s t true true a b h = rw (← same_Some s t h) (grind arith, grind arith)
-between_texts least most s t true false a b h = cc
-between_texts least most s t false true a b h = cc
-between_texts least most s t false false a b h = cc
-
 text_in_range : (least most : ℕ) (d : Data) (t : List ℕ) → text_within least most d ≡ Some t → (least ≤ length t) × (length t ≤ most)
-text_in_range least most (string s) t h = between_texts least most s t (nat_le least (length s)) (nat_le (length s) most) refl refl h
-text_in_range least most (integer z) t h = cc
-text_in_range least most (float x) t h = cc
-text_in_range least most (boolean b) t h = cc
-text_in_range least most (datetime d) t h = cc
-text_in_range least most (array ds) t h = cc
-text_in_range least most (table ms) t h = cc
+text_in_range least most (string s) t h =
+    let at = between least most (length s) s t (nat_le least (length s)) (nat_le (length s) most) refl refl h in rw (← at.0) (at.1, at.2)
+text_in_range least most d t h = cc
 
 text_in : (f : Field) (least most : ℕ) (o : Option Data) (t : List ℕ) → required f (text_within least most) o ≡ Ok t → (least ≤ length t) × (length t ≤ most)
 text_in f least most o t h = let at = present f (text_within least most) o t h in text_in_range least most at.0 t at.1
@@ -112,26 +92,24 @@ origin_fits Rbg1 count nodes source parent seed o h within =
     let b = both (absent field.Parent parent) _ o a.2 in
     let c = both (required field.Seed (text_within 1 255) seed) _ o b.2 in
     rw (← same_Ok _ (origin.SeedFile c.0) o refl c.2) (text_in field.Seed 1 255 seed c.0 c.1)
-origin_fits Rbg2 count nodes source parent seed o h within = let a = drawn_source count source parent seed o h in rw (← a.2) a.1
-origin_fits Rbg3Xor count nodes source parent seed o h within = let a = drawn_source count source parent seed o h in rw (← a.2) a.1
-origin_fits Rbg3Rs count nodes source parent seed o h within = let a = drawn_source count source parent seed o h in rw (← a.2) a.1
 origin_fits Child count nodes source parent seed o h within =
     let a = both (absent field.Source source) _ o h in
     let b = both (required field.Parent (number_within 0 (2 ^ 63 - 1)) parent) _ o a.2 in
     let c = both (absent field.Seed seed) _ o b.2 in
     let e : origin.Parent b.0 ≡ o = same_Ok _ (origin.Parent b.0) o refl c.2 in
     rw (← e) (subst (λ (o : RowOrigin). IfSome (parent_in (origin_of_row o)) (λ p. p < nodes)) (sym e) within)
+origin_fits kind count nodes source parent seed o h within = let a = drawn_source count source parent seed o h in rw (← a.2) a.1
 
 -- what is read of a node's table is in range, where its parent is among the nodes
-pub node_in : (count nodes : ℕ) (ms : Members) (r : NodeRow) → node_at count ms ≡ Ok r → IfSome (parent_in (node_of_row r).origin) (λ p. p < nodes)
+pub node_in : (version count nodes : ℕ) (ms : Members) (r : NodeRow) → node_at version count ms ≡ Ok r → IfSome (parent_in (node_of_row r).origin) (λ p. p < nodes)
     → IsNode 1 count nodes (node_of_row r)
 unfolding node_at
-node_in count nodes ms r h within =
+node_in version count nodes ms r h within =
     let a = both (required field.NodeKind (one_of node_kind_names) (get_member (codes "kind") ms)) _ r h in
     let b = both (required field.Drbg (one_of drbg_names) (get_member (codes "drbg") ms)) _ r a.2 in
     let c = both (or_default 65536 field.Interval (number_within 1 281474976710656) (get_member (codes "interval") ms)) _ r b.2 in
     let d = both (origin_of a.0 count (get_member (codes "source") ms) (get_member (codes "parent") ms) (get_member (codes "seed") ms)) _ r c.2 in
-    let e = both (where_true field.Unknown (has_only node_keys ms)) _ r d.2 in
+    let e = both (where_true field.Unknown (has_only (node_keys version) ms)) _ r d.2 in
     let row : NodeRow = record { kind = a.0; drbg = b.0; interval = c.0; origin = d.0 } in
     let is : row ≡ r = same_Ok _ row r refl e.2 in
     let here = subst (λ (r : NodeRow). IfSome (parent_in (node_of_row r).origin) (λ p. p < nodes)) (sym is) within in
@@ -160,12 +138,7 @@ binary_in : (o : Option Data) (b : Bool) → or_default false field.Binary as_bo
 binary_in None b h e = absurd (false_isnt (same_Ok _ false b refl h ∙ e))
 binary_in (Some (boolean true)) b h e = refl
 binary_in (Some (boolean false)) b h e = absurd (false_isnt (same_Ok _ false b refl h ∙ e))
-binary_in (Some (integer z)) b h e = cc
-binary_in (Some (string s)) b h e = cc
-binary_in (Some (float x)) b h e = cc
-binary_in (Some (datetime t)) b h e = cc
-binary_in (Some (array ds)) b h e = cc
-binary_in (Some (table ms)) b h e = cc
+binary_in (Some d) b h e = cc
 
 some_times : (x b q : ℕ) → x ≤ q * b → 1 ≤ x → 1 ≤ q
 some_times x b zero h some = absurd (omega (arith, h))

@@ -18,16 +18,16 @@ has_only keys (member k d ms) = is_key keys k && has_only keys ms
 abbrev pub top_keys : List (List ℕ)
 top_keys = codes "version" ∷ codes "opening" ∷ codes "source" ∷ codes "node" ∷ []
 
--- by the version of the configuration
+-- those of a source and of a node are by the version of the configuration
 abbrev pub source_keys : ℕ → List (List ℕ)
 source_keys version =
     codes "samples" ∷ codes "num" ∷ codes "den" ∷ codes "binary" ∷ codes "rct" ∷ codes "rct_a" ∷ codes "apt" ∷ codes "startup"
     ∷ codes "conditioner" ∷ []
 
-abbrev pub node_keys : List (List ℕ)
-node_keys = codes "kind" ∷ codes "drbg" ∷ codes "interval" ∷ codes "source" ∷ codes "parent" ∷ codes "seed" ∷ []
+abbrev pub node_keys : ℕ → List (List ℕ)
+node_keys version = codes "kind" ∷ codes "drbg" ∷ codes "interval" ∷ codes "source" ∷ codes "parent" ∷ codes "seed" ∷ []
 
 abbrev pub known_keys : Level → List (List ℕ)
 known_keys Top = top_keys
 known_keys (Source version) = source_keys version
-known_keys Node = node_keys
+known_keys (Node version) = node_keys version

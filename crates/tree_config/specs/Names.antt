@@ -59,6 +59,11 @@ place_text places.Top = codes "top"
 place_text (places.Source j) = codes "source " ++ decimal j
 place_text (places.Node i) = codes "node " ++ decimal i
 
+-- what there are too many of: nodes, or else sources
+abbrev pub entries_text : Bool → List ℕ
+entries_text true = codes "nodes"
+entries_text false = codes "sources"
+
 -- each value behind its name
 abbrev pub by_name : {A : Type 0} → (A → List ℕ) → List A → List (List ℕ × A)
 by_name text values = map (λ value. (text value, value)) values

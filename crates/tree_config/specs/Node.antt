@@ -41,12 +41,12 @@ origin_of Child count source parent seed = do
   _ ← absent field.Seed seed
   Ok (origin.Parent n)
 
--- in a file of so many sources
-unfoldable pub node_at : ℕ → Members → Result NodeRow Field
-node_at count ms = do
+-- by the version of the configuration, in a file of so many sources
+unfoldable pub node_at : ℕ → ℕ → Members → Result NodeRow Field
+node_at version count ms = do
   kind ← required field.NodeKind (one_of node_kind_names) (get_member (codes "kind") ms)
   drbg ← required field.Drbg (one_of drbg_names) (get_member (codes "drbg") ms)
   interval ← or_default 65536 field.Interval (number_within 1 281474976710656) (get_member (codes "interval") ms)
   origin ← origin_of kind count (get_member (codes "source") ms) (get_member (codes "parent") ms) (get_member (codes "seed") ms)
-  _ ← where_true field.Unknown (has_only node_keys ms)
+  _ ← where_true field.Unknown (has_only (node_keys version) ms)
   Ok (record { kind = kind; drbg = drbg; interval = interval; origin = origin })

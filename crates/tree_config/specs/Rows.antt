@@ -50,10 +50,13 @@ abbrev pub sources_at : ℕ → List Members → Result (List SourcePlan) Config
 sources_at version = each_at place.Source (source_at version) 0
 
 -- the nodes of a file of so many sources
-abbrev pub nodes_at : ℕ → List Members → Result (List NodeRow) ConfigFault
-nodes_at count = each_at place.Node (node_at count) 0
+abbrev pub nodes_at : ℕ → ℕ → List Members → Result (List NodeRow) ConfigFault
+nodes_at version count = each_at place.Node (node_at version count) 0
 
--- the most nodes and the greatest depth, by the version of the configuration
+-- the most sources, the most nodes and the greatest depth, by the version of the configuration
+abbrev pub source_limit : ℕ → ℕ
+source_limit version = 4
+
 abbrev pub node_limit : ℕ → ℕ
 node_limit version = 63
 
@@ -70,10 +73,10 @@ pub record Rows : Type 0 where
 unfoldable pub rows_at : Members → Result Rows ConfigFault
 rows_at ms = do
   top ← at_place place.Top (top_at ms)
-  _ ← at_most false 4 (length top.sources)
+  _ ← at_most false (source_limit top.version) (length top.sources)
   _ ← at_most true (node_limit top.version) (length top.nodes)
   sources ← sources_at top.version top.sources
-  nodes ← nodes_at (length top.sources) top.nodes
+  nodes ← nodes_at top.version (length top.sources) top.nodes
   Ok (record { version = top.version; opens_all = top.opens_all; sources = sources; nodes = nodes })
 
 abbrev pub or_bad : Option Members → Result Members ConfigFault

@@ -30,6 +30,7 @@ rct_of num den _ _ = Err field.Rct
 unfoldable pub window_of : Bool → ℕ
 window_of binary = if binary then 1024 else 512
 
+-- by the version of the configuration
 unfoldable pub source_at : ℕ → Members → Result SourcePlan Field
 source_at version ms = do
   samples ← required field.Samples (text_within 1 255) (get_member (codes "samples") ms)

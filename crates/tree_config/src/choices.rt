@@ -42,10 +42,7 @@ fn drbg_within(value: &Value) -> Option<Kind>
 pub(crate) fn drbg(table: &Table, key: &str, field: Field) -> Result<Kind, Field>
     ensures { result ≡ required field (one_of drbg_names) (get_member key.now (table_view table.now)) }
 {
-    match at(table, key) {
-        Some(value) => drbg_within(value).ok_or(field),
-        None => Err(field),
-    }
+    at(table, key).and_then(drbg_within).ok_or(field)
 }
 
 // A name of a kind of node.
@@ -66,10 +63,7 @@ fn node_kind_within(value: &Value) -> Option<NodeKind>
 pub(crate) fn node_kind(table: &Table, key: &str, field: Field) -> Result<NodeKind, Field>
     ensures { result ≡ required field (one_of node_kind_names) (get_member key.now (table_view table.now)) }
 {
-    match at(table, key) {
-        Some(value) => node_kind_within(value).ok_or(field),
-        None => Err(field),
-    }
+    at(table, key).and_then(node_kind_within).ok_or(field)
 }
 
 /// A conditioning component, or HMAC-SHA-256.

@@ -1,6 +1,6 @@
 // What can be wrong with a configuration, and where.
 ghost use Rattle.std.specs.Prelude.{◌≡◌, ◌≤◌, length, Some};
-ghost use Rattle.tree_config.specs.Names.{field_text, place_text};
+ghost use Rattle.tree_config.specs.Names.{field_text, place_text, entries_text};
 
 use std::fmt;
 use std::fmt::{Display, Formatter, Write};
@@ -110,7 +110,9 @@ impl Field {
 }
 
 // What there are too many of.
-fn entries(nodes: bool) -> &'static str {
+fn entries(nodes: bool) -> &'static str
+    ensures { result.now ≡ entries_text nodes }
+{
     if nodes { "nodes" } else { "sources" }
 }
 

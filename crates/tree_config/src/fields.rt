@@ -47,10 +47,9 @@ pub(crate) fn number(
     ensures value { result ≡ required field (number_within least most) (get_member key.now (table_view table.now)) }
     ensures range { IfOk result (λ n. least ≤ n × n ≤ most) }
 {
-    match at(table, key) {
-        Some(value) => number_within(value, least, most).ok_or(field),
-        None => Err(field),
-    }
+    at(table, key)
+        .and_then(|value| number_within(value, least, most))
+        .ok_or(field)
 }
 
 /// An integer in a range, or a default.
@@ -76,27 +75,17 @@ pub(crate) fn number_or(
 pub(crate) fn text_within(value: &Value, least: usize, most: usize) -> Option<&str>
     ensures { option_map (λ s. s.now) result ≡ text_within least most (view value.now) }
 {
-    match value.as_str() {
-        Some(text) => {
-            if least <= text.len() && text.len() <= most {
-                Some(text)
-            } else {
-                None
-            }
-        }
-        None => None,
-    }
+    value
+        .as_str()
+        .filter(|text| least <= text.len() && text.len() <= most)
 }
 
 /// A text of 1 to 255 bytes, which has to be there.
 pub(crate) fn name(table: &Table, key: &str, field: Field) -> Result<Name, Field>
     ensures { result ≡ required field (text_within 1 255) (get_member key.now (table_view table.now)) }
 {
-    match at(table, key) {
-        Some(value) => match text_within(value, 1, 255) {
-            Some(text) => Ok(Name::of(text)),
-            None => Err(field),
-        },
+    match at(table, key).and_then(|value| text_within(value, 1, 255)) {
+        Some(text) => Ok(Name::of(text)),
         None => Err(field),
     }
 }

@@ -5,12 +5,12 @@ ghost use Rattle.tree_config.specs.Keys.{has_only, is_key, known_keys};
 
 use toml::Table;
 
-/// A kind of place. The keys of a source are by the version of the configuration.
+/// A kind of place. The keys of a source and of a node are by the version of the configuration.
 #[derive(Clone, Copy)]
 pub(crate) enum Level {
     Top,
     Source(u8),
-    Node,
+    Node(u8),
 }
 
 // Whether a place of this kind has the key.
@@ -30,7 +30,7 @@ fn is_known(key: &str, level: Level) -> bool
                 || key == "startup"
                 || key == "conditioner"
         }
-        Level::Node => {
+        Level::Node(_) => {
             key == "kind"
                 || key == "drbg"
                 || key == "interval"

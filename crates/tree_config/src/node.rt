@@ -9,7 +9,7 @@ ghost use Rattle.tree_config.specs.declared.fault.Field.TheVariants as field;
 
 use crate::choices::{drbg, node_kind};
 use crate::fault::Field;
-use crate::fields::{absent, at, check, name, number, number_or, number_within};
+use crate::fields::{absent, check, name, number, number_or};
 use crate::keys::{Level, has_only};
 use crate::plan::NodeKind;
 use crate::row::{NodeRow, RowOrigin};
@@ -19,18 +19,11 @@ use toml::Table;
 fn source(table: &Table, count: u8) -> Result<u8, Field>
     ensures { result ≡ required field.Source (source_within count) (get_member (codes "source") (table_view table.now)) }
 {
-    match at(table, "source") {
-        Some(value) => {
-            if count == 0 {
-                return Err(Field::Source);
-            }
-            match number_within(value, 0, u64::from(count - 1)) {
-                Some(n) => Ok(n as u8),
-                None => Err(Field::Source),
-            }
-        }
-        None => Err(Field::Source),
+    if count == 0 {
+        return Err(Field::Source);
     }
+    let n = number(table, "source", 0, u64::from(count - 1), Field::Source)?;
+    Ok(n as u8)
 }
 
 // The keys source, parent and seed of an RBG2 or an RBG3, which draws on a source.
@@ -74,10 +67,10 @@ fn origin(table: &Table, kind: NodeKind, count: u8) -> Result<RowOrigin, Field>
     }
 }
 
-/// The node that a table says in a file of so many sources, or the first field at fault.
+/// The node that a table says, by the version, in a file of so many sources, or the first field at fault.
 #[tactic(auto, unfolding(crate::specs::Node::node_at))]
-pub(crate) fn node(table: &Table, count: u8) -> Result<NodeRow, Field>
-    ensures { result ≡ node_at count (table_view table.now) }
+pub(crate) fn node(table: &Table, version: u8, count: u8) -> Result<NodeRow, Field>
+    ensures { result ≡ node_at version count (table_view table.now) }
 {
     let kind = node_kind(table, "kind", Field::NodeKind)?;
     let drbg = drbg(table, "drbg", Field::Drbg)?;
@@ -90,7 +83,7 @@ pub(crate) fn node(table: &Table, count: u8) -> Result<NodeRow, Field>
         Field::Interval,
     )?;
     let origin = origin(table, kind, count)?;
-    check(has_only(table, Level::Node), Field::Unknown)?;
+    check(has_only(table, Level::Node(version)), Field::Unknown)?;
     Ok(NodeRow {
         kind,
         drbg,

@@ -4,7 +4,7 @@ ghost use Rattle.toml.specs.View.{view, table_view};
 ghost use Rattle.tree_config.specs.Source.{source_at};
 ghost use Rattle.tree_config.specs.Node.{node_at};
 ghost use Rattle.tree_config.specs.Top.{members_in, members_of_each, heading_view, top_at};
-ghost use Rattle.tree_config.specs.Rows.{Gives, at_place, node_limit, depth_limit, at_most, sources_at, nodes_at, rows_at, rows_of, rows_view, document_of};
+ghost use Rattle.tree_config.specs.Rows.{Gives, at_place, source_limit, node_limit, depth_limit, at_most, sources_at, nodes_at, rows_at, rows_of, rows_view, document_of};
 ghost use Rattle.tree_config.specs.declared.fault.Place.TheVariants as place;
 
 use crate::document::document;
@@ -30,11 +30,11 @@ fn source_of(value: &Value, version: u8) -> Result<SourcePlan, Field>
 
 // The node that a value says.
 #[tactic(auto, unfolding(crate::specs::Node::node_at))]
-fn node_of(value: &Value, count: u8) -> Result<NodeRow, Field>
-    ensures { result ≡ node_at count (members_in (view value.now)) }
+fn node_of(value: &Value, version: u8, count: u8) -> Result<NodeRow, Field>
+    ensures { result ≡ node_at version count (members_in (view value.now)) }
 {
     match value.as_table() {
-        Some(table) => node(table, count),
+        Some(table) => node(table, version, count),
         None => Err(Field::NodeKind),
     }
 }
@@ -65,14 +65,19 @@ fn sources(alloc: Global, values: &[Value], version: u8) -> Result<Vec<SourcePla
 }
 
 // The nodes that the values say.
-fn nodes(alloc: Global, values: &[Value], count: u8) -> Result<Vec<NodeRow>, PlanRefusal>
+fn nodes(
+    alloc: Global,
+    values: &[Value],
+    version: u8,
+    count: u8,
+) -> Result<Vec<NodeRow>, PlanRefusal>
     requires { length values.now ≤ 63 }
-    ensures value { Gives (λ v. v.items) result (nodes_at count (members_of_each values.now)) }
+    ensures value { Gives (λ v. v.items) result (nodes_at version count (members_of_each values.now)) }
     ensures count { IfOk result (λ v. length v.items ≡ length values.now) }
 {
     let mut rows = Vec::new(alloc);
     for (i, value) in values.iter().enumerate() {
-        match node_of(value, count) {
+        match node_of(value, version, count) {
             Ok(row) => {
                 if rows.push(row).is_err() {
                     return Err(PlanRefusal::OutOfMemory);
@@ -93,13 +98,20 @@ fn nodes(alloc: Global, values: &[Value], count: u8) -> Result<Vec<NodeRow>, Pla
 fn heading(table: &Table) -> Result<Heading<'_>, PlanRefusal>
     ensures { Gives heading_view result (at_place place.Top (top_at (table_view table.now))) }
 {
-    match top(table) {
-        Ok(heading) => Ok(heading),
-        Err(field) => Err(PlanRefusal::Fault(ConfigFault::BadField {
+    top(table).map_err(|field| {
+        PlanRefusal::Fault(ConfigFault::BadField {
             place: Place::Top,
             field,
-        })),
-    }
+        })
+    })
+}
+
+// The most sources of a version, of which there is one.
+fn source_limit(version: u8) -> u64
+    ensures value { result ≡ source_limit version }
+    ensures few { result ≤ 4 }
+{
+    4
 }
 
 // The most nodes of a version, of which there is one.
@@ -141,10 +153,11 @@ fn rows_of_table(alloc: Global, table: &Table) -> Result<RowVecs, PlanRefusal>
     ensures few { IfOk result (λ r. length r.sources.items ≤ 4 × length r.nodes.items ≤ 63) }
 {
     let heading = heading(table)?;
-    at_most(false, 4, heading.sources.len())?;
+    at_most(false, source_limit(heading.version), heading.sources.len())?;
     at_most(true, node_limit(heading.version), heading.nodes.len())?;
     let sources = sources(alloc, heading.sources, heading.version)?;
-    let nodes = nodes(alloc, heading.nodes, heading.sources.len() as u8)?;
+    let count = heading.sources.len() as u8;
+    let nodes = nodes(alloc, heading.nodes, heading.version, count)?;
     Ok(RowVecs {
         version: heading.version,
         opens_all: heading.opens_all,

@@ -8,7 +8,7 @@ ghost use Rattle.tree_config.specs.Source.{source_at, is_true, rct_of, den_fits,
 
 use crate::choices::conditioner;
 use crate::fault::Field;
-use crate::fields::{at, check, flag_or, has, name, number, number_or, number_within};
+use crate::fields::{at, check, flag_or, has, name, number, number_or};
 use crate::keys::{Level, has_only};
 use crate::plan::SourcePlan;
 use health_tests::{Cutoffs, rct_cutoff};
@@ -73,13 +73,8 @@ fn apt(table: &Table, binary: bool) -> Result<u16, Field>
     ensures range { IfOk result (λ n. 2 ≤ n × n ≤ window_of binary) }
 {
     let window = window_of(binary);
-    match at(table, "apt") {
-        Some(value) => match number_within(value, 2, u64::from(window)) {
-            Some(apt) => Ok(apt as u16),
-            None => Err(Field::Apt),
-        },
-        None => Err(Field::Apt),
-    }
+    let apt = number(table, "apt", 2, u64::from(window), Field::Apt)?;
+    Ok(apt as u16)
 }
 
 // These cutoffs, none of which is refused.
@@ -95,7 +90,7 @@ fn sound(rct: u32, window: u16, apt: u16) -> Cutoffs
     }
 }
 
-/// The source that a table says, or the first field at fault.
+/// The source that a table says, by the version, or the first field at fault.
 #[tactic(auto, unfolding(crate::specs::Source::source_at))]
 pub(crate) fn source(table: &Table, version: u8) -> Result<SourcePlan, Field>
     ensures { result ≡ source_at version (table_view table.now) }

@@ -54,14 +54,7 @@ fn tables(value: &Value) -> Option<&[Value]>
 fn some_tables(value: &Value) -> Option<&[Value]>
     ensures { option_map (λ vs. members_of_each vs.now) result ≡ some_tables (view value.now) }
 {
-    match tables(value) {
-        Some(values) => if values.is_empty() {
-            None
-        } else {
-            Some(values)
-        },
-        None => None,
-    }
+    tables(value).filter(|values| !values.is_empty())
 }
 
 // The tables of the sources, none where the key is absent.
@@ -69,10 +62,7 @@ fn sources(table: &Table) -> Result<&[Value], Field>
     ensures { Reads (λ vs. members_of_each vs.now) result (or_default [] field.Sources tables (get_member (codes "source") (table_view table.now))) }
 {
     match at(table, "source") {
-        Some(value) => match tables(value) {
-            Some(values) => Ok(values),
-            None => Err(Field::Sources),
-        },
+        Some(value) => tables(value).ok_or(Field::Sources),
         None => Ok(&[]),
     }
 }
@@ -81,13 +71,7 @@ fn sources(table: &Table) -> Result<&[Value], Field>
 fn nodes(table: &Table) -> Result<&[Value], Field>
     ensures { Reads (λ vs. members_of_each vs.now) result (required field.Nodes some_tables (get_member (codes "node") (table_view table.now))) }
 {
-    match at(table, "node") {
-        Some(value) => match some_tables(value) {
-            Some(values) => Ok(values),
-            None => Err(Field::Nodes),
-        },
-        None => Err(Field::Nodes),
-    }
+    at(table, "node").and_then(some_tables).ok_or(Field::Nodes)
 }
 
 // Whether all nodes are opened at the start, by its name.

@@ -1,5 +1,5 @@
 // Following parents from node to node.
-ghost use Rattle.std.specs.Prelude.{◌≡◌, ◌<◌, length};
+ghost use Rattle.std.specs.Prelude.{◌≡◌, ◌<◌, ◌↔◌, IsTrue, length};
 ghost use Rattle.tree_config.specs.Graph.{parent_at, LacksParent, IsOnCycle, HasDepth, IsNever, FindsLeast};
 ghost use Rattle.tree_config.specs.Tree.{parents, parent_in};
 ghost use Rattle.tree_config.specs.Walks.{Walks};
@@ -54,13 +54,26 @@ fn way_from(nodes: &[NodePlan], n: usize) -> Way
     Way::Lost
 }
 
+// Whether following parents from node n comes back to it: not where it only leads into a cycle of other nodes.
+fn comes_back(nodes: &[NodePlan], n: usize) -> bool
+    requires known { IsNever (LacksParent (parents nodes.now)) }
+    requires within { n < length nodes.now }
+    ensures { IsTrue result ↔ IsOnCycle (parents nodes.now) n }
+{
+    match way_from(nodes, n) {
+        Way::Back => true,
+        Way::Root { .. } => false,
+        Way::Lost => false,
+    }
+}
+
 /// The least node on a cycle.
 pub(crate) fn first_cycle(nodes: &[NodePlan]) -> Option<usize>
     requires known { IsNever (LacksParent (parents nodes.now)) }
     ensures { FindsLeast (IsOnCycle (parents nodes.now)) result }
 {
     for n in 0..nodes.len() {
-        if let Way::Back = way_from(nodes, n) {
+        if comes_back(nodes, n) {
             return Some(n);
         }
     }

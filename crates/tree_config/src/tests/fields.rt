@@ -1,5 +1,5 @@
 // Each field and each way in which it can be wrong, the ends of its range, and the order of the fields.
-use crate::tests::texts::{K1, first_miss, first_slip, outcome};
+use crate::tests::texts::{NODE_WITH_A_CHILD, first_miss, first_slip, outcome};
 use std::test::Fail;
 
 const TOP: &str = "version = 1; ->  : Version
@@ -124,23 +124,29 @@ kind = \"child\";drbg = \"ctr-aes-256\";interval = 1;parent = 0 -> kind = \"rbg1
 kind = \"child\";drbg = \"ctr-aes-256\";interval = 1;parent = 0 -> kind = \"rbg1\";drbg = \"ctr-aes-256\";seed = \"\" : Seed
 kind = \"child\";drbg = \"ctr-aes-256\";interval = 1;parent = 0 -> kind = \"rbg1\";drbg = \"ctr-aes-256\";seed = \"s\" : -";
 
-// Whole texts of which the nodes are wrong.
-const NO_NODES: &str = "K ->  : Nodes
-K -> node = 1 : Nodes
-K -> node = [1] : Nodes
-K -> node = [] : Nodes
-K -> [node] : Nodes
-K -> node = [{}, 1] : Nodes
-K -> source = [] : Nodes";
+// Changes of a text of which the nodes are wrong.
+const NO_NODES: &str = "HERE ->  : Nodes
+HERE -> node = 1 : Nodes
+HERE -> node = [1] : Nodes
+HERE -> node = [] : Nodes
+HERE -> [node] : Nodes
+HERE -> node = [{}, 1] : Nodes
+HERE -> source = [] : Nodes";
 
 #[test]
 fn each_field_and_its_range(rt: HostRuntime) -> Result<(), Fail> {
     let alloc = rt.alloc();
-    assert_eq!(rt; first_miss(alloc, K1, "Top", TOP)?, "");
-    assert_eq!(rt; first_miss(alloc, "version = 1\nK", "Top", NO_NODES)?, "");
-    assert_eq!(rt; first_miss(alloc, K1, "Source(0)", SOURCE)?, "");
-    assert_eq!(rt; first_miss(alloc, K1, "Node(0)", DRAWN)?, "");
-    assert_eq!(rt; first_miss(alloc, K1, "Node(1)", CHILD)?, "");
+    assert_eq!(rt; first_miss(alloc, NODE_WITH_A_CHILD, "Top", TOP)?, "");
+    assert_eq!(rt;
+        first_miss(alloc, "version = 1\nHERE", "Top", NO_NODES)?,
+        ""
+    );
+    assert_eq!(rt;
+        first_miss(alloc, NODE_WITH_A_CHILD, "Source(0)", SOURCE)?,
+        ""
+    );
+    assert_eq!(rt; first_miss(alloc, NODE_WITH_A_CHILD, "Node(0)", DRAWN)?, "");
+    assert_eq!(rt; first_miss(alloc, NODE_WITH_A_CHILD, "Node(1)", CHILD)?, "");
     // no source is in a file without sources
     let text = "version = 1\nnode = [{ kind = \"rbg2\", drbg = \"ctr-aes-128\", source = 0 }]";
     let got = outcome(alloc, text.as_bytes())?;
@@ -165,7 +171,10 @@ fn names_have_1_to_255_bytes(rt: HostRuntime) -> Result<(), Fail> {
         assert_eq!(rt; first_miss(alloc, node, "Node(0)", row.as_str())?, "");
         let field = if field == "-" { field } else { "Samples" };
         let row = format!(in alloc; "ramp -> {} : {field}", name.as_str())?;
-        assert_eq!(rt; first_miss(alloc, K1, "Source(0)", row.as_str())?, "");
+        assert_eq!(rt;
+            first_miss(alloc, NODE_WITH_A_CHILD, "Source(0)", row.as_str())?,
+            ""
+        );
     }
     Ok(())
 }
@@ -195,10 +204,10 @@ parent = -1 | parent = 0 | Parent
 seed = \"s\" | # | Seed
 x = 1 | # | Unknown";
 
-// Whole places in their order: `K` stands for a right source and `N` for a right node, a child of itself.
+// Whole places in their order: `S` stands for a right source and `N` for a right node, a child of itself.
 const PLACES: &str =
-    "version = 1;[[source]];K[[source]];[[node]];[[node]] : BadField { place: Source(1), field: Samples }
-version = 1;[[source]];K[[node]];[[node]];N : BadField { place: Node(0), field: NodeKind }
+    "version = 1;[[source]];S[[source]];[[node]];[[node]] : BadField { place: Source(1), field: Samples }
+version = 1;[[source]];S[[node]];[[node]];N : BadField { place: Node(0), field: NodeKind }
 version = 1;[[node]];N[[node]] : BadField { place: Node(1), field: NodeKind }
 version = 1;[[node]];N : Cycle { node: 0 }";
 
@@ -223,7 +232,7 @@ fn the_first_of_several_fields(rt: HostRuntime) -> Result<(), Fail> {
         if let Some((text, want)) = row.split_once(" : ") {
             let text = text.replace(
                 alloc,
-                "K",
+                "S",
                 "samples = \"ramp\"\nnum = 8\nden = 1\nrct = 4\napt = 257\n",
             )?;
             let text = text.replace(

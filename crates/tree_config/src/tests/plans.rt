@@ -1,7 +1,7 @@
 // The plans of the sample configurations and the stock plan, and what is printed.
 ghost use Rattle.std.specs.Prelude.{◌<◌, ◌≤◌, length};
 
-use crate::tests::texts::{K1, K2, K3, first_misprint, plan_of};
+use crate::tests::texts::{NODE_WITH_A_CHILD, RBG3_AND_RBG1, TWO_SOURCES, first_misprint, plan_of};
 use crate::{ConfigFault, Field, Origin, SourcePlan, TreePlan, cond_name, drbg_name};
 use std::alloc::Global;
 use std::test::Fail;
@@ -73,7 +73,7 @@ fn plan_text(alloc: Global, plan: &TreePlan) -> Result<String, Fail> {
 }
 
 // One cutoff is computed, 1 + ceil(20 / (3 / 4)) = 28, the samples are binary, and all else has its default or is an inline table.
-const K5: &str = "version = 1
+const INLINE_TABLES: &str = "version = 1
 node = [{ kind = \"rbg2\", drbg = \"ctr-aes-192\", source = 0 }]
 source = [{ samples = \"a/b\", num = 3, den = 4, binary = true, rct_a = 20, apt = 1024, startup = 65536, conditioner = \"df-aes-256\" }]
 ";
@@ -83,7 +83,7 @@ fn the_samples_are_these_plans(rt: HostRuntime) -> Result<(), Fail> {
     let alloc = rt.alloc();
     for (text, want) in [
         (
-            K1,
+            NODE_WITH_A_CHILD,
             "none
 ramp 8/1 4 512 257 1024 hmac-sha-256
 rbg2 hmac-sha-256 2 source 0 1
@@ -91,7 +91,7 @@ child ctr-aes-256 1 parent 0 2
 ",
         ),
         (
-            K2,
+            TWO_SOURCES,
             "all
 ramp 8/1 4 512 257 1024 hmac-sha-256
 ramp 8/1 4 512 257 1024 hmac-sha-256
@@ -102,7 +102,7 @@ child hmac-sha-256 100 parent 1 2
 ",
         ),
         (
-            K3,
+            RBG3_AND_RBG1,
             "all
 ramp 8/1 4 512 257 1024 hmac-sha-256
 rbg3-xor hmac-sha-256 1000 source 0 1
@@ -112,7 +112,7 @@ child ctr-aes-128 10 parent 2 2
 ",
         ),
         (
-            K5,
+            INLINE_TABLES,
             "all
 a/b 3/4 28 1024 1024 65536 df-aes-256
 rbg2 ctr-aes-192 65536 source 0 1
@@ -149,7 +149,7 @@ hmac-sha-256 -> ctr-aes-128 : strength rises at node 1";
 #[test]
 fn faults_and_names_print(rt: HostRuntime) -> Result<(), Fail> {
     let alloc = rt.alloc();
-    assert_eq!(rt; first_misprint(alloc, K1, PRINTED)?, "");
+    assert_eq!(rt; first_misprint(alloc, NODE_WITH_A_CHILD, PRINTED)?, "");
     let large = format!(in alloc; "{}", ConfigFault::TooLarge { limit: 65536 })?;
     assert_eq!(rt; large.as_str(), "too large");
     let many = format!(in alloc;

@@ -4,7 +4,7 @@ use std::alloc::Global;
 use std::test::Fail;
 
 /// One source, a node that draws on it, and a child of that node.
-pub const K1: &str = "version = 1
+pub const NODE_WITH_A_CHILD: &str = "version = 1
 opening = \"none\"
 [[source]]
 samples = \"ramp\"
@@ -25,7 +25,7 @@ parent = 0
 ";
 
 /// Two sources, a node on each, and a child of each node.
-pub const K2: &str = "version = 1
+pub const TWO_SOURCES: &str = "version = 1
 [[source]]
 samples = \"ramp\"
 num = 8
@@ -61,7 +61,7 @@ parent = 1
 ";
 
 /// Both constructions of an RBG3, an RBG1, and a child of it.
-pub const K3: &str = "version = 1
+pub const RBG3_AND_RBG1: &str = "version = 1
 [[source]]
 samples = \"ramp\"
 num = 8

@@ -1,5 +1,5 @@
 // Nodes that make a tree and those that do not, the numbers of entries, and texts that are no TOML.
-use crate::tests::texts::{K1, outcome};
+use crate::tests::texts::{NODE_WITH_A_CHILD, outcome};
 use std::alloc::Global;
 use std::test::Fail;
 
@@ -116,8 +116,8 @@ version = \"1";
 fn lengths_and_texts_that_are_not_toml(rt: HostRuntime) -> Result<(), Fail> {
     let alloc = rt.alloc();
     let large = "TooLarge { limit: 65536 }";
-    let filling = "#".repeat(alloc, 65537 - K1.len())?;
-    let text = format!(in alloc; "{K1}{}", filling.as_str())?;
+    let filling = "#".repeat(alloc, 65537 - NODE_WITH_A_CHILD.len())?;
+    let text = format!(in alloc; "{NODE_WITH_A_CHILD}{}", filling.as_str())?;
     assert_eq!(rt; text.len(), 65537);
     let got = outcome(alloc, text.as_bytes())?;
     assert_eq!(rt; got.as_str(), large);

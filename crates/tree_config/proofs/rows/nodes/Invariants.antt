@@ -8,6 +8,6 @@ use Rattle.tree_config.proofs.rows.nodes.Given as goal
 
 abbrev pub invariant-loop-i : goal.invariant-loop-i
 invariant-loop-i l =
-    (with_front l.rows.items (each_at place.Node (node_at l.count) l.i (members_of_each (drop l.i l.values)))
-    ≡ each_at place.Node (node_at l.count) 0 (members_of_each l.values))
+    (with_front l.rows.items (each_at place.Node (node_at l.version l.count) l.i (members_of_each (drop l.i l.values)))
+    ≡ each_at place.Node (node_at l.version l.count) 0 (members_of_each l.values))
     × (length l.rows.items ≡ l.i)
