@@ -1,9 +1,10 @@
 /* The peer of bench/health: both continuous health tests of SP 800-90B 4.4 over pseudo-random samples.
  *
  *   health_peer plain SAMPLES TIMES   the tests in a structure, with a function that takes one sample, as they are mostly written
- *   health_peer fast SAMPLES TIMES    the tests' numbers in local variables of one loop
+ *   health_peer local SAMPLES TIMES   the tests' numbers in local variables of one loop, and the cutoffs as constants
+ *   health_peer usual SAMPLES TIMES   the same, with three comparisons for the usual sample before anything else
  *
- * Both do the work of health_bench, with the same line on standard output.
+ * Each form is a function that is called, as ours are. All do the work of health_bench, with the same line on standard output.
  */
 #include <stdint.h>
 #include <stdio.h>
@@ -43,7 +44,7 @@ static enum answer step(struct tests *t, uint8_t sample)
 }
 
 /* How many samples are tested up to the first alarm, and whether there is one. */
-static size_t run_plain(const uint8_t *samples, size_t len, int *alarmed)
+__attribute__((noinline)) static size_t run_plain(const uint8_t *samples, size_t len, int *alarmed)
 {
     struct tests tests = {RCT, WINDOW, APT, 0, 0, 0, 0, 0};
     for (size_t i = 0; i < len; i++) {
@@ -55,7 +56,7 @@ static size_t run_plain(const uint8_t *samples, size_t len, int *alarmed)
     return len;
 }
 
-static size_t run_fast(const uint8_t *samples, size_t len, int *alarmed)
+__attribute__((noinline)) static size_t run_local(const uint8_t *samples, size_t len, int *alarmed)
 {
     uint32_t run = 0, place = 0, equal = 0;
     uint8_t last = 0, first = 0;
@@ -81,6 +82,47 @@ static size_t run_fast(const uint8_t *samples, size_t len, int *alarmed)
     return len;
 }
 
+__attribute__((noinline)) static size_t run_usual(const uint8_t *samples, size_t len, int *alarmed)
+{
+    uint32_t run = 0, place = 0, equal = 0;
+    uint8_t last = 0, first = 0;
+    for (size_t i = 0; i < len; i++) {
+        uint8_t sample = samples[i];
+        if (sample != last && sample != first && place - 1 < WINDOW - 2) {
+            run = 1;
+            last = sample;
+            place++;
+            continue;
+        }
+        run = sample == last ? run + 1 : 1;
+        last = sample;
+        if (place == 0) {
+            first = sample;
+            equal = 1;
+        } else if (sample == first) {
+            equal++;
+        }
+        if (++place == WINDOW)
+            place = 0;
+        if (run >= RCT || equal >= APT) {
+            *alarmed = 1;
+            return i + 1;
+        }
+    }
+    return len;
+}
+
+enum form { PLAIN, LOCAL, USUAL, NO_FORM };
+
+static enum form form_named(const char *name)
+{
+    if (strcmp(name, "plain") == 0)
+        return PLAIN;
+    if (strcmp(name, "local") == 0)
+        return LOCAL;
+    return strcmp(name, "usual") == 0 ? USUAL : NO_FORM;
+}
+
 static void fill(uint8_t *samples, size_t len)
 {
     uint64_t state = 0;
@@ -92,11 +134,11 @@ static void fill(uint8_t *samples, size_t len)
 
 int main(int argc, char **argv)
 {
-    int plain = argc == 4 && strcmp(argv[1], "plain") == 0;
+    enum form form = argc == 4 ? form_named(argv[1]) : NO_FORM;
     long len = argc == 4 ? atol(argv[2]) : 0, times = argc == 4 ? atol(argv[3]) : 0;
     uint8_t *samples = len > 0 ? malloc(len) : NULL;
-    if (samples == NULL || times < 1 || (!plain && strcmp(argv[1], "fast") != 0)) {
-        fprintf(stderr, "usage: health_peer plain|fast SAMPLES TIMES\n");
+    if (samples == NULL || times < 1 || form == NO_FORM) {
+        fprintf(stderr, "usage: health_peer plain|local|usual SAMPLES TIMES\n");
         return 1;
     }
     unsigned long long tested = 0, alarms = 0;
@@ -104,7 +146,12 @@ int main(int argc, char **argv)
     for (long i = 0; i < times; i++) {
         int alarmed = 0;
         samples[0] = i;
-        tested += plain ? run_plain(samples, len, &alarmed) : run_fast(samples, len, &alarmed);
+        if (form == PLAIN)
+            tested += run_plain(samples, len, &alarmed);
+        else if (form == LOCAL)
+            tested += run_local(samples, len, &alarmed);
+        else
+            tested += run_usual(samples, len, &alarmed);
         alarms += alarmed;
     }
     printf("%llu samples, %llu alarms\n", tested, alarms);

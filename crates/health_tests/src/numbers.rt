@@ -1,5 +1,5 @@
 // The five numbers that the tests keep of a list of samples.
-ghost use Rattle.std.specs.Prelude.{◌≡◌, ◌<◌, ◌^◌, true, false, length, IfSome, IfNone, OnSome};
+ghost use Rattle.std.specs.Prelude.{◌≡◌, ◌<◌, ◌-◌, ◌^◌, true, false, length, IfSome, IfNone, OnSome};
 ghost use Rattle.health_tests.specs.Blocks.{AllDiffer};
 
 use crate::{Alarm, Test};
@@ -111,21 +111,21 @@ impl Tail {
         ensures below { IfNone result (IsBelow (limits rct window apt) self.new) }
     {
         for at in 0..samples.len() {
-            if let Some(test) = self.add(rct, window, apt, samples[at]) {
+            if let Some(test) = self.count(rct, window, apt, samples[at]) {
                 return Some(Alarm { at, test });
             }
         }
         None
     }
 
-    /// One sample more, unless it alarms.
+    // One sample more, unless it alarms, by what the sample is like. It is for samples in a row of which one or more is not usual,
+    // where `add` would go out of its way too often.
     #[inline]
-    pub fn add(&mut self, rct: u32, window: u16, apt: u16, sample: u8) -> Option<Test>
+    fn count(&mut self, rct: u32, window: u16, apt: u16, sample: u8) -> Option<Test>
         requires sound { AreSound (limits rct window apt) }
         requires below { IsBelow (limits rct window apt) self.old }
         ensures answer { result ≡ alarm_by (limits rct window apt) (tail_step window self.old sample) }
         ensures numbers { IfNone result (self.new ≡ tail_step window self.old sample) }
-        ensures alarmed { OnSome result (self.new ≡ self.old) }
     {
         let mut run = 1;
         if sample == self.last {
@@ -151,6 +151,73 @@ impl Tail {
             self.place = 0;
         }
         None
+    }
+
+    /// One sample more, unless it alarms. The usual sample lies within its window, and is like neither the last one nor the
+    /// window's first: then neither test can alarm, and three comparisons are all that it takes.
+    #[inline]
+    pub fn add(&mut self, rct: u32, window: u16, apt: u16, sample: u8) -> Option<Test>
+        requires sound { AreSound (limits rct window apt) }
+        requires below { IsBelow (limits rct window apt) self.old }
+        ensures answer { result ≡ alarm_by (limits rct window apt) (tail_step window self.old sample) }
+        ensures numbers { IfNone result (self.new ≡ tail_step window self.old sample) }
+        ensures alarmed { OnSome result (self.new ≡ self.old) }
+    {
+        if sample != self.last
+            && sample != self.first
+            && self.place.wrapping_sub(1) < u32::from(window) - 2
+        {
+            self.run = 1;
+            self.last = sample;
+            self.place += 1;
+            return None;
+        }
+        let next = self.with(window, sample);
+        let alarm = next.alarm(rct, apt);
+        if alarm.is_none() {
+            *self = next;
+        }
+        alarm
+    }
+
+    // The numbers with one sample more. They come and go by value and not at a place in memory, so that a caller's loop can keep
+    // its own in registers as long as the samples are of the usual kind.
+    #[cold]
+    #[inline(never)]
+    fn with(self, window: u16, sample: u8) -> Tail
+        requires run { self.run < 2 ^ 32 - 1 }
+        requires equal { self.equal < 2 ^ 16 - 1 }
+        requires place { self.place < window }
+        ensures { result ≡ tail_step window self sample }
+    {
+        let mut next = self;
+        next.run = if sample == self.last { self.run + 1 } else { 1 };
+        next.last = sample;
+        if self.place == 0 {
+            next.first = sample;
+            next.equal = 1;
+        } else if sample == self.first {
+            next.equal = self.equal + 1;
+        }
+        next.place = self.place + 1;
+        if next.place == u32::from(window) {
+            next.place = 0;
+        }
+        next
+    }
+
+    // The alarm at the last sample, in which the length of the window has no part.
+    #[inline]
+    fn alarm(self, rct: u32, apt: u16) -> Option<Test>
+        ensures { result ≡ alarm_by (limits rct 0 apt) self }
+    {
+        if self.run >= rct {
+            Some(Test::Repetition)
+        } else if self.equal >= apt {
+            Some(Test::Proportion)
+        } else {
+            None
+        }
     }
 }
 
