@@ -1,7 +1,7 @@
 use Rattle.std.proofs.Common.{◌≡◌}
 use Rattle.std.specs.Prelude.{replicate}
-use Rattle.aes_bench.specs.Iterated.{iterated}
-use Rattle.aes_bench.proofs.work.iterated.Given as goal
+use Rattle.primitive_bench.specs.Iterated.{iterated}
+use Rattle.primitive_bench.proofs.work.iterated.Given as goal
 
 abbrev pub invariant-loop-i : goal.invariant-loop-i
 invariant-loop-i l = l.block ≡ iterated l.aes l.i (replicate 16 0)

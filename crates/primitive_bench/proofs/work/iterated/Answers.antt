@@ -1,8 +1,8 @@
 use Rattle.std.proofs.Common.{◌≡◌, ℕ, ◌+◌, List, refl, sym, ap, ◌∙◌, add-one}
 use Rattle.std.specs.Prelude.{replicate}
 use Rattle.aes_core.specs.Aes.{aes}
-use Rattle.aes_bench.specs.Iterated.{iterated}
-use Rattle.aes_bench.proofs.work.iterated.Goals as goal
+use Rattle.primitive_bench.specs.Iterated.{iterated}
+use Rattle.primitive_bench.proofs.work.iterated.Goals as goal
 
 none : (key block : List ℕ) → iterated key 0 block ≡ block
 unfolding iterated
