@@ -1,0 +1,17 @@
+// Trees in plain numbers, for tests.
+use entropy_source::SourceMode;
+
+/// What a refusal reads of a node: whether it is instantiated, its reseed counter, and whether it keeps a seed that was not used.
+#[derive(Clone, Copy, Debug, PartialEq, Eq)]
+pub struct PlainNode {
+    pub live: bool,
+    pub counter: u64,
+    pub has_seed: bool,
+}
+
+/// What a refusal reads of a source: the samples taken since it was opened, and its mode.
+#[derive(Clone, Copy, Debug, PartialEq, Eq)]
+pub struct PlainSource {
+    pub taken: u64,
+    pub mode: SourceMode,
+}
