@@ -14,7 +14,8 @@ pub enum Kind {
 }
 
 impl Kind {
-    /// The security strength in bits: the highest that the kind supports (SP 800-90A Rev. 1, table 2; SP 800-57 Part 1, table 3).
+    /// The security strength in bits: the highest that the kind supports (SP 800-90A Rev. 1, table 2 for HMAC_DRBG, table 3 for
+    /// CTR_DRBG; SP 800-57 Part 1, table 3).
     pub fn strength(self) -> u16
         ensures bits { result ≡ strength self }
         ensures range { (128 ≤ result) × (result ≤ 256) }

@@ -6,6 +6,7 @@
 //! - `stream`: what is asked of the outside where bytes come from and go to;
 //! - `memory`: a source and a sink in memory, which fail where they are told to;
 //! - `line`: a printed line that is being put together;
+//! - `place`: bytes put at a place of a buffer, and bytes xored;
 //! - `kind`: the kinds of DRBG by name, with their strength;
 //! - `cond`: the conditioning components by name.
 #![tactic(auto)]
@@ -16,6 +17,7 @@ mod kind;
 mod line;
 mod memory;
 mod name;
+mod place;
 mod stream;
 
 pub use cond::Cond;
@@ -24,6 +26,7 @@ pub use kind::Kind;
 pub use line::Line;
 pub use memory::{MemSink, MemSource};
 pub use name::Name;
+pub use place::{put_at, put_fitting, put_front, xor_bytes};
 pub use stream::{ByteSink, ByteSource, Failed, OutOfMemory};
 
 #[cfg(test)]

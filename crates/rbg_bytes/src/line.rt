@@ -1,6 +1,7 @@
 // A printed line that is being put together.
 ghost use Rattle.std.specs.Prelude.{◌≡◌, ◌≤◌, ◌+◌, ◌++◌, [], List, ℕ, length, take, decimal};
 
+use crate::put_at;
 use itoa::Buffer;
 use std::marker::Model;
 
@@ -18,14 +19,6 @@ impl Model for Line {
     ghost view = { λ l. take l.len l.bytes };
 
     ghost invariant = { λ l. l.len ≤ 512 };
-}
-
-// Puts bytes at a place.
-fn put(bytes: &mut [u8], at: usize, part: &[u8])
-    requires { at + length part.now ≤ length bytes.old }
-    ensures { take (at + length part.now) bytes.new ≡ take at bytes.old ++ part.now }
-{
-    bytes[at..at + part.len()].copy_from_slice(part);
 }
 
 impl Line {
@@ -47,7 +40,7 @@ impl Line {
         ensures len { length self.new ≡ length self.old + length part.now }
     {
         let bytes = part.as_bytes();
-        put(&mut self.bytes, self.len, bytes);
+        put_at(&mut self.bytes, self.len, bytes);
         self.len += bytes.len();
     }
 

@@ -1,20 +1,12 @@
 // A source and a sink in memory, which fail at the calls that they are told.
-ghost use Rattle.std.specs.Prelude.{◌≡◌, ◌≤◌, ◌<◌, ◌+◌, ◌-◌, ◌++◌, ◌↔◌, ◌⊎◌, [], length, take, min, Some, Contains, IsErr, OnOk, OnErr, IfOk};
+ghost use Rattle.std.specs.Prelude.{◌≡◌, ◌≤◌, ◌<◌, ◌+◌, ◌-◌, ◌++◌, ◌↔◌, ◌⊎◌, [], length, take, min, Some, None, Contains, IsErr, OnOk, OnErr, IfOk};
 ghost use Rattle.std.specs.Io.{ReadsAtMost};
 ghost use Rattle.std.specs.Io.KnownBytes.{ReadConsumes};
 ghost use Rattle.rbg_bytes.specs.Streams.{HasCause, TakesAll};
 ghost use Rattle.rbg_bytes.specs.Memory.{after_read, after_failed_read, after_write, after_failed_write};
 
-use crate::{ByteSink, ByteSource, Failed};
+use crate::{ByteSink, ByteSource, Failed, put_fitting, put_front};
 use std::marker::Model;
-
-// Puts the part at the front of the buffer.
-fn fill(buf: &mut [u8], part: &[u8])
-    requires { length part.now ≤ length buf.old }
-    ensures { take (length part.now) buf.new ≡ part.now }
-{
-    buf[..part.len()].copy_from_slice(part);
-}
 
 // Puts as many of the bytes as fit at a place of the room, and says how many.
 fn put(room: &mut Vec<u8>, at: usize, bytes: &[u8]) -> usize
@@ -23,9 +15,7 @@ fn put(room: &mut Vec<u8>, at: usize, bytes: &[u8]) -> usize
     ensures count { result ≡ min (length bytes.now) (length room.old.items - at) }
     ensures front { take (at + result) room.new.items ≡ take at room.old.items ++ take result bytes.now }
 {
-    let count = bytes.len().min(room.len() - at);
-    room[at..at + count].copy_from_slice(&bytes[..count]);
-    count
+    put_fitting(room, at, bytes)
 }
 
 /// A source in memory, which tells its bytes. A read gives as many as fit and are left, at most `piece`, and fails where its
@@ -77,6 +67,7 @@ impl ByteSource for MemSource {
         requires { 0 < length buf.old }
         ensures bound { ReadsAtMost result buf.new }
         ensures bytes { ReadConsumes (Some self.old.left) (Some self.new.left) result buf.new }
+        ensures untold { Some self.old.left ≡ None → Some self.new.left ≡ None }
         ensures cause { HasCause self.old.faults self.new.faults result }
         ensures failed { IsErr result ↔ Contains self.old.fail self.old.calls }
         ensures count { IfOk result (λ n. n ≡ min (min (length buf.old) self.old.piece) (length self.old.left)) }
@@ -90,7 +81,7 @@ impl ByteSource for MemSource {
             return Err(Failed);
         }
         let count = buf.len().min(self.piece).min(self.bytes.len() - self.at);
-        fill(buf, &self.bytes[self.at..self.at + count]);
+        put_front(buf, &self.bytes[self.at..self.at + count]);
         self.at += count;
         Ok(count)
     }

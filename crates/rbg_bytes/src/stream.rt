@@ -1,5 +1,5 @@
 // What is asked of the outside where bytes come from and go to.
-ghost use Rattle.std.specs.Prelude.{◌≡◌, ◌<◌, List, ℕ, length};
+ghost use Rattle.std.specs.Prelude.{◌≡◌, ◌<◌, List, ℕ, length, None};
 ghost use Rattle.std.specs.declared.option.Option.{Option};
 ghost use Rattle.std.specs.Io.{ReadsAtMost};
 ghost use Rattle.std.specs.Io.KnownBytes.{ReadConsumes};
@@ -22,11 +22,13 @@ pub trait ByteSource: Drop {
     ghost faults: { Self → ℕ };
 
     /// Puts the next bytes, as many as it likes, at the front of a buffer that isn't empty, and says how many. None is the
-    /// end, and comes only there where the source tells its bytes. After `Failed` nothing was taken.
+    /// end, and comes only there where the source tells its bytes. A source that doesn't tell them never begins to. After
+    /// `Failed` nothing was taken. What the buffer holds behind the bytes given, and after `Failed` anywhere, is not said.
     fn read(&mut self, buf: &mut [u8]) -> Result<usize, Failed>
         requires { 0 < length buf.old }
         ensures bound { ReadsAtMost result buf.new }
         ensures bytes { ReadConsumes (left self.old) (left self.new) result buf.new }
+        ensures untold { left self.old ≡ None → left self.new ≡ None }
         ensures cause { HasCause (faults self.old) (faults self.new) result };
 
     /// How often the source has failed, up to 2^64 - 1.

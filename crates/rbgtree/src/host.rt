@@ -25,7 +25,7 @@ impl<R> Reading<R> {
 }
 
 impl<R: Read + Drop> ByteSource for Reading<R> {
-    ghost left = { λ s. R.remaining s.inner };
+    ghost left = { λ _. None };
 
     ghost faults = { λ s. s.faults };
 
