@@ -1,5 +1,5 @@
 // The real files, noise sources, input and output. They count their faults and tell no content.
-ghost use Rattle.std.specs.Prelude.{None};
+ghost use Rattle.std.specs.Prelude.{None, ⊤};
 ghost use Rattle.std.specs.Io.{ReadsAtMost};
 
 use crate::world::World;
@@ -108,6 +108,8 @@ impl Samples for OsSamples {
     ghost told = { λ _. None };
 
     ghost faults = { λ s. s.faults };
+
+    ghost reads = { λ _ _ _ _. ⊤ };
 
     fn read(&mut self, buf: &mut [u8]) -> Result<usize, Failed> {
         match self.device.next(buf) {

@@ -4,6 +4,7 @@ ghost use Rattle.std.specs.Io.{ReadsAtMost};
 ghost use Rattle.std.specs.Io.KnownBytes.{ReadConsumes};
 ghost use Rattle.rbg_bytes.specs.Streams.{HasCause};
 ghost use Rattle.rbg_bytes.specs.Memory.{after_read, after_failed_read};
+ghost use Rattle.sample_source.specs.Reads.{given_by, ReadsPiece};
 
 use crate::Samples;
 use rbg_bytes::{ByteSource, Failed, MemSource};
@@ -41,12 +42,15 @@ impl Samples for Faulty {
 
     ghost faults = { λ f. f.faults };
 
+    ghost reads = { ReadsPiece };
+
     fn read(&mut self, buf: &mut [u8]) -> Result<usize, Failed>
         requires { 0 < length buf.old }
         ensures bound { ReadsAtMost result buf.new }
         ensures samples { ReadConsumes (Some self.old.left) (Some self.new.left) result buf.new }
         ensures untold { Some self.old.left ≡ None → Some self.new.left ≡ None }
         ensures cause { HasCause self.old.faults self.new.faults result }
+        ensures made { ReadsPiece self.old (length buf.old) (given_by result buf.new) self.new }
         ensures failed { IsErr result ↔ Contains self.old.fail self.old.calls }
         ensures count { IfOk result (λ n. n ≡ min (min (length buf.old) self.old.piece) (length self.old.left)) }
         ensures ok { IfOk result (λ n. self.new ≡ after_read self.old n) }

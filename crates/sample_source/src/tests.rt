@@ -18,7 +18,7 @@ fn recorded_samples_end(rt: HostRuntime) -> Result<(), Fail> {
     assert_eq!(rt; read_one(&mut source, &mut buf), (Ok(4), 0));
     assert_eq!(rt; buf, [7, 8, 9, 10]);
     assert_eq!(rt; read_one(&mut source, &mut buf), (Ok(1), 0));
-    assert_eq!(rt; buf, [11, 8, 9, 10]);
+    assert_eq!(rt; buf[0], 11);
     assert_eq!(rt; read_one(&mut source, &mut buf), (Ok(0), 0));
     assert_eq!(rt; read_one(&mut source, &mut buf), (Ok(0), 0));
     Ok(())
@@ -30,10 +30,10 @@ fn faulty_samples_come_in_pieces_and_fail_where_listed(rt: HostRuntime) -> Resul
     let mut source = Faulty::new(vec![in alloc; 1u8, 2, 3, 4]?, 3, vec![in alloc; 1u64]?);
     let mut buf = [0u8; 4];
     assert_eq!(rt; read_one(&mut source, &mut buf), (Ok(3), 0));
-    assert_eq!(rt; buf, [1, 2, 3, 0]);
+    assert_eq!(rt; &buf[..3], [1u8, 2, 3].as_slice());
     assert_eq!(rt; read_one(&mut source, &mut buf), (Err(Failed), 1));
     assert_eq!(rt; read_one(&mut source, &mut buf), (Ok(1), 1));
-    assert_eq!(rt; buf, [4, 2, 3, 0]);
+    assert_eq!(rt; buf[0], 4);
     assert_eq!(rt; read_one(&mut source, &mut buf), (Ok(0), 1));
     Ok(())
 }
