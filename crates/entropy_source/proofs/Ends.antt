@@ -17,10 +17,19 @@ use Rattle.entropy_source.specs.Counted.{samples_of, lacking_after}
 use Rattle.entropy_source.specs.Outcomes.{Outcome}
 use Rattle.entropy_source.specs.Views.{SourceView, source_state, HasDrawn, error_of}
 use Rattle.entropy_source.specs.Causes.{IfSpent, IfInError, IfFault, IfHealthFailed, IfWant}
-use Rattle.entropy_source.specs.Steps.{IsLeft, LeadsBlocks, StopsBlocks, EndsStart, EndsDraw}
+use Rattle.entropy_source.specs.Scaffolding.{IsLeft, LeadsBlocks, StopsBlocks, EndsStart, EndsDraw}
 use Rattle.entropy_source.proofs.Answering.{drawn_ends}
 
-module _ (row : SourceRow) (n : ℕ) (s now : SourceState) (some : IsSome s.tail) where
+module _ {S : Type 0} (told : S → Option (List ℕ)) (faults : S → ℕ) (reads : S → ℕ → Option (List ℕ) → S → Type 0) (n : ℕ) (v w : SourceView S) (some : IsSome v.tail) where
+  abbrev row : SourceRow
+  row = v.row
+
+  abbrev s : SourceState
+  s = source_state told faults v
+
+  abbrev later : SourceState
+  later = source_state told faults w
+
   -- the blocks of one want
   one_want : 0 + blocks_for row n ≡ blocks_for row n
   one_want = zero-add (blocks_for row n)
@@ -38,34 +47,36 @@ module _ (row : SourceRow) (n : ℕ) (s now : SourceState) (some : IsSome s.tail
       → (t : Tail) → s.tail ≡ Some t → Outcome s.taken (alarm_from row.cutoffs t (samples_of acts)) (lacking_after (need_of_block row) (need_of_block row) acts) acts end
   outcome_of acts end d t tl = drawn_ends row t s (n ∷ []) acts end (subst (λ o. Drawn row (found_in row.cutoffs o) s (n ∷ []) acts end) tl d)
 
-  pub drawn : (out : List ℕ) (from to : ℕ) → length out ≡ n → from ≡ s.taken → to ≡ now.taken
-      → (bytes : List ℕ) × LeadsBlocks row s now (blocks_for row n) 0 bytes × (out ≡ take (length out) bytes)
-      → HasDrawn row n out (Ok (record { from = from; to = to })) s now × EndsDraw {T = Range} row n (Ok (record { from = from; to = to })) s now
+  pub drawn : (out : List ℕ) (from to : ℕ) → length out ≡ n → from ≡ s.taken → to ≡ later.taken
+      → (bytes : List ℕ) × LeadsBlocks told faults reads row v w (blocks_for row n) 0 bytes × (out ≡ take (length out) bytes)
+      → HasDrawn told faults reads n out (Ok (record { from = from; to = to })) v w × EndsDraw {T = Range} row n (Ok (record { from = from; to = to })) s later
   drawn out from to len first last (bytes, x, is) =
       let whole : ℕ → ℕ → Result Range SourceRefusal = λ a b. Ok (record { from = a; to = b }) in
-      let range : whole from to ≡ whole s.taken now.taken = ap (λ a. whole a to) first ∙ ap (whole s.taken) last in
+      let range : whole from to ≡ whole s.taken later.taken = ap (λ a. whole a to) first ∙ ap (whole s.taken) last in
       let draw = found_of x.acts (Ok bytes) (λ t tl.
       subst (λ z. Draws row (found_in row.cutoffs (Some t)) (blocks_for row n) s [] [] z (Ok bytes)) (append-nil x.acts) (x.goes t [] [] [] (Ok bytes) tl (refl, refl))) in (
         record {
           acts = x.acts;
           bytes = Ok bytes;
           draw = draw;
-          state = x.state;
+          state = x.leads.state;
+          made = x.leads.made;
           answer = (range, is ∙ ap (λ k. take k bytes) len);
           outcome = outcome_of x.acts (Ok bytes) draw;
         },
         (x.others.mode, omega (arith, x.taken, zero-mul (need_of_block row), ap (λ k. k * need_of_block row) one_want), x.others.faults),
       )
 
-  pub not_drawn : (out : List ℕ) (why : SourceRefusal) → StopsBlocks row s now (blocks_for row n) why
-      → HasDrawn row n out (Err why) s now × EndsDraw {T = Range} row n (Err why) s now
+  pub not_drawn : (out : List ℕ) (why : SourceRefusal) → StopsBlocks told faults reads row v w (blocks_for row n) why
+      → HasDrawn told faults reads n out (Err why) v w × EndsDraw {T = Range} row n (Err why) s later
   not_drawn out why x =
       let draw = found_of x.acts (Err why) (λ t tl. x.ends t [] [] tl) in (
         record {
           acts = x.acts;
           bytes = Err why;
           draw = draw;
-          state = x.state;
+          state = x.leads.state;
+          made = x.leads.made;
           answer = refl;
           outcome = outcome_of x.acts (Err why) draw;
         },

@@ -4,11 +4,12 @@ use Rattle.std.proofs.Math.Seq.{take-append-add, take-nil}
 use Rattle.std.proofs.Math.Nat.{mul-le-mul_right}
 use Rattle.std.proofs.lemmas.List.{take_all}
 use Rattle.std.proofs.lemmas.Grind.{div_ceil_times}
+use Rattle.std.specs.Prelude.{Option}
 use Rattle.std.specs.Int.{div_ceil}
 use Rattle.entropy_source.specs.declared.answers.SourceRow.{SourceRow}
 use Rattle.entropy_source.specs.declared.answers.SourceRefusal.{SourceRefusal}
-use Rattle.entropy_source.specs.Source.{SourceState}
-use Rattle.entropy_source.specs.Steps.{LeadsBlocks, StopsBlocks}
+use Rattle.entropy_source.specs.Views.{SourceView}
+use Rattle.entropy_source.specs.Scaffolding.{LeadsBlocks, StopsBlocks}
 use Rattle.entropy_source.proofs.Conditioning.{blocks_none, blocks_more, blocks_stop}
 
 -- n bytes of two parts, where the first has no more than n
@@ -43,42 +44,43 @@ fill_step bytes block out after i len lb lk fits same so_far put =
     ap (λ k. take k after) (one ∙ ap (λ k. i * len + k) (sym lk)) ∙ (put ∙ (ap (λ z. z ++ take (length out - i * len) block) (so_far ∙ front) ∙ sym two)) in
     (omega (arith, length-append bytes block), all ∙ ap (λ k. take k (bytes ++ block)) (sym same))
 
-module _ (row : SourceRow) (s : SourceState) (blocks len : ℕ) where
+module _ {S : Type 0} (told : S → Option (List ℕ)) (faults : S → ℕ) (reads : S → ℕ → Option (List ℕ) → S → Type 0) (row : SourceRow)
+    (v : SourceView S) (blocks len : ℕ) where
   -- the first i blocks are made, and stand in the bytes
-  abbrev pub Filled : SourceState → ℕ → List ℕ → Type 0
-  Filled now i out = (bytes : List ℕ) × LeadsBlocks row s now blocks (blocks - i) bytes × (length bytes ≡ i * len) × (take (i * len) out ≡ take (length out) bytes)
+  abbrev pub Filled : SourceView S → ℕ → List ℕ → Type 0
+  Filled w i out = (bytes : List ℕ) × LeadsBlocks told faults reads row v w blocks (blocks - i) bytes × (length bytes ≡ i * len) × (take (i * len) out ≡ take (length out) bytes)
 
-  pub filled_none : (out : List ℕ) → Filled s 0 out
+  pub filled_none : (out : List ℕ) → Filled v 0 out
   filled_none out =
       let all : blocks ≡ blocks - 0 = omega arith in
-      ([], subst (λ k. LeadsBlocks row s s blocks k []) all (blocks_none row s blocks), sym (zero-mul len), rw (zero-mul, take-nil) refl)
+      ([], subst (λ k. LeadsBlocks told faults reads row v v blocks k []) all (blocks_none told faults reads row v blocks), sym (zero-mul len), rw (zero-mul, take-nil) refl)
 
-  module _ (mid now : SourceState) (here : SourceRow) (is : here ≡ row) (i : ℕ) (less : i < blocks) (out : List ℕ) where
+  module _ (m w : SourceView S) (here : SourceRow) (is : here ≡ row) (i : ℕ) (less : i < blocks) (out : List ℕ) where
     one_less : suc (blocks - (i + 1)) ≡ blocks - i
     one_less = omega arith
 
-    pub filled_more : (after block : List ℕ) → Filled mid i out
-        → ((left : ℕ) → LeadsBlocks here mid now (suc left) left block)
+    pub filled_more : (after block : List ℕ) → Filled m i out
+        → ((left : ℕ) → LeadsBlocks told faults reads here m w (suc left) left block)
         → length block ≡ len → i * len ≤ length out → length after ≡ length out
         → take (i * len + length block) after ≡ take (i * len) out ++ take (length out - i * len) block
-        → Filled now (i + 1) after
+        → Filled w (i + 1) after
     filled_more after block (bytes, first, lb, so_far) second lk fits same put =
-        let made : LeadsBlocks row mid now (blocks - i) (blocks - (i + 1)) block =
-        subst (λ k. LeadsBlocks row mid now k (blocks - (i + 1)) block) one_less (subst (λ r. LeadsBlocks r mid now (suc (blocks - (i + 1))) (blocks - (i + 1)) block) is (second (blocks - (i + 1)))) in
+        let made : LeadsBlocks told faults reads row m w (blocks - i) (blocks - (i + 1)) block =
+        subst (λ k. LeadsBlocks told faults reads row m w k (blocks - (i + 1)) block) one_less (subst (λ r. LeadsBlocks told faults reads r m w (suc (blocks - (i + 1))) (blocks - (i + 1)) block) is (second (blocks - (i + 1)))) in
         let step = fill_step bytes block out after i len lb lk fits same so_far put in
-        (bytes ++ block, blocks_more row s mid now blocks (blocks - i) bytes first (blocks - (i + 1)) block made, step.0, step.1)
+        (bytes ++ block, blocks_more told faults reads row v m w blocks (blocks - i) bytes first (blocks - (i + 1)) block made, step.0, step.1)
 
-    pub filled_stops : (why : SourceRefusal) → Filled mid i out → ((left : ℕ) → StopsBlocks here mid now (suc left) why) → StopsBlocks row s now blocks why
+    pub filled_stops : (why : SourceRefusal) → Filled m i out → ((left : ℕ) → StopsBlocks told faults reads here m w (suc left) why) → StopsBlocks told faults reads row v w blocks why
     filled_stops why (bytes, first, lb, so_far) second =
-        let made : StopsBlocks row mid now (blocks - i) why =
-        subst (λ k. StopsBlocks row mid now k why) one_less (subst (λ r. StopsBlocks r mid now (suc (blocks - (i + 1))) why) is (second (blocks - (i + 1)))) in
-        blocks_stop row s mid now blocks (blocks - i) bytes first why made
+        let made : StopsBlocks told faults reads row m w (blocks - i) why =
+        subst (λ k. StopsBlocks told faults reads row m w k why) one_less (subst (λ r. StopsBlocks told faults reads r m w (suc (blocks - (i + 1))) why) is (second (blocks - (i + 1)))) in
+        blocks_stop told faults reads row v m w blocks (blocks - i) bytes first why made
 
-  pub filled_all : (now : SourceState) (out : List ℕ) (wanted : ℕ) → wanted ≡ blocks → length out ≤ blocks * len → Filled now blocks out
-      → (bytes : List ℕ) × LeadsBlocks row s now wanted 0 bytes × (out ≡ take (length out) bytes)
-  filled_all now out wanted is enough (bytes, leads, lb, all) =
+  pub filled_all : (w : SourceView S) (out : List ℕ) (wanted : ℕ) → wanted ≡ blocks → length out ≤ blocks * len → Filled w blocks out
+      → (bytes : List ℕ) × LeadsBlocks told faults reads row v w wanted 0 bytes × (out ≡ take (length out) bytes)
+  filled_all w out wanted is enough (bytes, leads, lb, all) =
       let none : blocks - blocks ≡ 0 = omega arith in (
         bytes,
-        subst (λ k. LeadsBlocks row s now k 0 bytes) (sym is) (subst (λ k. LeadsBlocks row s now blocks k bytes) none leads),
+        subst (λ k. LeadsBlocks told faults reads row v w k 0 bytes) (sym is) (subst (λ k. LeadsBlocks told faults reads row v w blocks k bytes) none leads),
         sym (take_all (blocks * len) out enough) ∙ all,
       )

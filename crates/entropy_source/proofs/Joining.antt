@@ -7,9 +7,11 @@ use Rattle.health_tests.specs.Numbers.{tail_step, tail_after}
 use Rattle.entropy_source.specs.declared.answers.SourceRow.{SourceRow}
 use Rattle.entropy_source.specs.declared.answers.SourceRefusal.{SourceRefusal}
 use Rattle.entropy_source.specs.declared.answers.SourceRefusal.TheVariants.{SourceSpent, InError, SourceFault, HealthFailed, WantOfEntropy}
-use Rattle.entropy_source.specs.Source.{SourceAct, SourceState, source_after, source_after_all}
+use Rattle.entropy_source.specs.Source.{SourceAct, Began, Read, Alarmed, Started, Block, SourceState, source_after, source_after_all}
 use Rattle.entropy_source.specs.Draws.{Gathers, found_in}
-use Rattle.entropy_source.specs.Steps.{IsLeft, Leads, Stops}
+use Rattle.entropy_source.specs.Reads.{LeadBy}
+use Rattle.entropy_source.specs.Views.{SourceView, source_state}
+use Rattle.entropy_source.specs.Scaffolding.{IsLeft, LeadsTo, Leads, Stops}
 
 -- the state after two rows of acts
 pub after_append : (row : SourceRow) (s : SourceState) (xs ys : List SourceAct) → source_after_all row s (xs ++ ys) ≡ source_after_all row (source_after_all row s xs) ys
@@ -29,11 +31,38 @@ left_before s mid now lacks left (SourceFault count) m f l (a, b, c) = (subst (�
 left_before s mid now lacks left (HealthFailed index test) m f l (a, b) = (a ∙ f, b)
 left_before s mid now lacks left (WantOfEntropy missing) m f l (a, b, c, d) = (a ∙ f, b ∙ m, c, omega arith)
 
-module _ (row : SourceRow) (s : SourceState) where
-  pub leads_none : (lacks : ℕ) → Leads row s s lacks lacks []
+-- reads that lead from samples to samples, and others that lead on from there
+pub lead_on : {S : Type 0} (reads : S → ℕ → Option (List ℕ) → S → Type 0) (faults : S → ℕ) (a b c : S) (xs ys : List SourceAct)
+    → LeadBy reads faults a xs b → LeadBy reads faults b ys c → LeadBy reads faults a (xs ++ ys) c
+lead_on reads faults a b c [] ys first second = subst (λ z. LeadBy reads faults z ys c) (sym first) second
+lead_on reads faults a b c (Read asked got count ∷ xs) ys (next, one, is, first) second = (next, one, is, lead_on reads faults next b c xs ys first second)
+lead_on reads faults a b c (Began ∷ xs) ys first second = lead_on reads faults a b c xs ys first second
+lead_on reads faults a b c (Alarmed index test ∷ xs) ys first second = lead_on reads faults a b c xs ys first second
+lead_on reads faults a b c (Started ∷ xs) ys first second = lead_on reads faults a b c xs ys first second
+lead_on reads faults a b c (Block from to bytes ∷ xs) ys first second = lead_on reads faults a b c xs ys first second
+
+module _ {S : Type 0} (told : S → Option (List ℕ)) (faults : S → ℕ) (reads : S → ℕ → Option (List ℕ) → S → Type 0) (row : SourceRow) where
+  abbrev of : SourceView S → SourceState
+  of v = source_state told faults v
+
+  pub to_itself : (v : SourceView S) → LeadsTo told faults reads row [] v v
+  to_itself v = record { state = refl; made = refl }
+
+  pub to_on : (v m w : SourceView S) (xs ys : List SourceAct) → LeadsTo told faults reads row xs v m → LeadsTo told faults reads row ys m w
+      → LeadsTo told faults reads row (xs ++ ys) v w
+  to_on v m w xs ys a b = record {
+    state = b.state ∙ (ap (λ (z : SourceState). source_after_all row z ys) a.state ∙ sym (after_append row (of v) xs ys));
+    made = lead_on reads faults v.samples m.samples w.samples xs ys a.made b.made;
+  }
+
+module _ {S : Type 0} (told : S → Option (List ℕ)) (faults : S → ℕ) (reads : S → ℕ → Option (List ℕ) → S → Type 0) (row : SourceRow) (v : SourceView S) where
+  abbrev s : SourceState
+  s = source_state told faults v
+
+  pub leads_none : (lacks : ℕ) → Leads told faults reads row v v lacks lacks []
   leads_none lacks = record {
     acts = [];
-    state = refl;
+    leads = to_itself told faults reads row v;
     keeps = λ t h. h;
     count = omega arith;
     taken = omega arith;
@@ -44,17 +73,23 @@ module _ (row : SourceRow) (s : SourceState) where
         (subst (λ z. Gathers row (found_in row.cutoffs (Some t)) lacks s (has ++ []) z more end) (append-nil read) g);
   }
 
-  module _ (mid now : SourceState) (lacks left : ℕ) (got : List ℕ) (a : Leads row s mid lacks left got) where
+  module _ (m w : SourceView S) (lacks left : ℕ) (got : List ℕ) (a : Leads told faults reads row v m lacks left got) where
+    abbrev mid : SourceState
+    mid = source_state told faults m
+
+    abbrev now : SourceState
+    now = source_state told faults w
+
     abbrev window : ℕ
     window = row.cutoffs.window
 
     tail_mid : (t : Tail) (read : List ℕ) → s.tail ≡ Some (tail_after window t read) → mid.tail ≡ Some (tail_after window t (read ++ got))
     tail_mid t read tl = a.keeps (tail_after window t read) tl ∙ ap Some (tail_append window t read got)
 
-    pub leads_more : (rest : ℕ) (more : List ℕ) → Leads row mid now left rest more → Leads row s now lacks rest (got ++ more)
+    pub leads_more : (rest : ℕ) (more : List ℕ) → Leads told faults reads row m w left rest more → Leads told faults reads row v w lacks rest (got ++ more)
     leads_more rest more b = record {
       acts = a.acts ++ b.acts;
-      state = b.state ∙ (ap (λ (z : SourceState). source_after_all row z b.acts) a.state ∙ sym (after_append row s a.acts b.acts));
+      leads = to_on told faults reads row v m w a.acts b.acts a.leads b.leads;
       keeps = λ t h. b.keeps (tail_after window t got) (a.keeps t h) ∙ ap Some (tail_append window t got more);
       count = omega (arith, length-append got more, a.count, b.count);
       taken = omega (arith, length-append got more, a.taken, b.taken);
@@ -72,10 +107,10 @@ module _ (row : SourceRow) (s : SourceState) where
           (subst (λ z. Gathers row (found_in row.cutoffs (Some t)) rest now (has ++ (got ++ more)) z rest' end) (sym (append_assoc read got more)) g))));
     }
 
-    pub leads_stops : (why : SourceRefusal) → Stops row mid now left why → Stops row s now lacks why
+    pub leads_stops : (why : SourceRefusal) → Stops told faults reads row m w left why → Stops told faults reads row v w lacks why
     leads_stops why b = record {
       acts = a.acts ++ b.acts;
-      state = b.state ∙ (ap (λ (z : SourceState). source_after_all row z b.acts) a.state ∙ sym (after_append row s a.acts b.acts));
+      leads = to_on told faults reads row v m w a.acts b.acts a.leads b.leads;
       few = omega (arith, a.count, a.taken, b.few);
       blocks = b.blocks ∙ a.blocks;
       left = left_before s mid now lacks left why a.others.mode a.others.faults (omega (arith, a.count)) b.left;
@@ -83,32 +118,35 @@ module _ (row : SourceRow) (s : SourceState) where
     }
 
 -- all samples were read
-pub gathered_all : (row : SourceRow) (s now : SourceState) (lacks : ℕ) (got : List ℕ) (a : Leads row s now lacks 0 got)
-    → (t : Tail) (has read : List ℕ) → s.tail ≡ Some (tail_after row.cutoffs.window t read)
-    → Gathers row (found_in row.cutoffs (Some t)) lacks s has read a.acts (Ok (has ++ got))
-gathered_all row s now lacks got a t has read tl =
-    subst (λ z. Gathers row (found_in row.cutoffs (Some t)) lacks s has read z (Ok (has ++ got))) (append-nil a.acts)
+pub gathered_all : {S : Type 0} (told : S → Option (List ℕ)) (faults : S → ℕ) (reads : S → ℕ → Option (List ℕ) → S → Type 0) (row : SourceRow)
+    (v w : SourceView S) (lacks : ℕ) (got : List ℕ) (a : Leads told faults reads row v w lacks 0 got)
+    → (t : Tail) (has read : List ℕ) → v.tail ≡ Some (tail_after row.cutoffs.window t read)
+    → Gathers row (found_in row.cutoffs (Some t)) lacks (source_state told faults v) has read a.acts (Ok (has ++ got))
+gathered_all told faults reads row v w lacks got a t has read tl =
+    subst (λ z. Gathers row (found_in row.cutoffs (Some t)) lacks (source_state told faults v) has read z (Ok (has ++ got))) (append-nil a.acts)
     (a.goes t has read [] (Ok (has ++ got)) tl (refl, refl))
 
 -- Reads so that some samples are left to be read.
-module _ (row : SourceRow) (s : SourceState) (lacks : ℕ) where
-  abbrev pub Left : SourceState → ℕ → Type 0
-  Left now left = (got : List ℕ) × Leads row s now lacks left got
+module _ {S : Type 0} (told : S → Option (List ℕ)) (faults : S → ℕ) (reads : S → ℕ → Option (List ℕ) → S → Type 0) (row : SourceRow) (v : SourceView S) (lacks : ℕ) where
+  abbrev pub Left : SourceView S → ℕ → Type 0
+  Left w left = (got : List ℕ) × Leads told faults reads row v w lacks left got
 
-  pub left_none : (left : ℕ) → left ≡ lacks → Left s left
-  left_none left is = ([], subst (λ k. Leads row s s lacks k []) (sym is) (leads_none row s lacks))
+  pub left_none : (left : ℕ) → left ≡ lacks → Left v left
+  left_none left is = ([], subst (λ k. Leads told faults reads row v v lacks k []) (sym is) (leads_none told faults reads row v lacks))
 
-  module _ (mid now : SourceState) (here : SourceRow) (is : here ≡ row) (left : ℕ) where
-    pub left_more : (rest : ℕ) (more : List ℕ) → Left mid left → Leads here mid now left rest more → Left now rest
+  module _ (m w : SourceView S) (here : SourceRow) (is : here ≡ row) (left : ℕ) where
+    pub left_more : (rest : ℕ) (more : List ℕ) → Left m left → Leads told faults reads here m w left rest more → Left w rest
     left_more rest more (got, first) second =
-        (got ++ more, leads_more row s mid now lacks left got first rest more (subst (λ r. Leads r mid now left rest more) is second))
+        (got ++ more, leads_more told faults reads row v m w lacks left got first rest more (subst (λ r. Leads told faults reads r m w left rest more) is second))
 
-    pub left_stops : (why : SourceRefusal) → Left mid left → Stops here mid now left why → Stops row s now lacks why
-    left_stops why (got, first) second = leads_stops row s mid now lacks left got first why (subst (λ r. Stops r mid now left why) is second)
+    pub left_stops : (why : SourceRefusal) → Left m left → Stops told faults reads here m w left why → Stops told faults reads row v w lacks why
+    left_stops why (got, first) second =
+        leads_stops told faults reads row v m w lacks left got first why (subst (λ r. Stops told faults reads r m w left why) is second)
 
 -- the tests keep something after reads without an alarm
-pub still_tested : (row : SourceRow) (s now : SourceState) (lacks left : ℕ) (got : List ℕ) → Leads row s now lacks left got → IsSome s.tail → IsSome now.tail
-still_tested row s now lacks left got leads some = by s.tail some leads.keeps where
-  by : (o : Option Tail) → IsSome o → ((t : Tail) → o ≡ Some t → now.tail ≡ Some (tail_after row.cutoffs.window t got)) → IsSome now.tail
+pub still_tested : {S : Type 0} (told : S → Option (List ℕ)) (faults : S → ℕ) (reads : S → ℕ → Option (List ℕ) → S → Type 0) (row : SourceRow)
+    (v w : SourceView S) (lacks left : ℕ) (got : List ℕ) → Leads told faults reads row v w lacks left got → IsSome v.tail → IsSome w.tail
+still_tested told faults reads row v w lacks left got leads some = by v.tail some leads.keeps where
+  by : (o : Option Tail) → IsSome o → ((t : Tail) → o ≡ Some t → w.tail ≡ Some (tail_after row.cutoffs.window t got)) → IsSome w.tail
   by None some keeps = cc
   by (Some t) some keeps = subst (λ (o : Option Tail). IsSome o) (sym (keeps t refl)) refl

@@ -25,20 +25,24 @@ pub record Answers (s : SourceState) (asked : ℕ) (got : Option (List ℕ)) (co
   pub told : IfSome s.told (λ left. IfSome got (λ xs. AreNext left xs))
   pub cause : MatchOption got (Rose s.faults count) (λ _. count ≡ s.faults)
 
+-- what a read asks for, where so many samples are lacking: all of them, 4,096 at most
+abbrev pub asks : ℕ → ℕ
+asks lacks = min 4096 lacks
+
 -- The results are all samples or bytes, or why there are too few. `found` tells the first alarm among samples that a read
 -- gave, behind those that the call has read before.
 module _ (row : SourceRow) (found : List ℕ → List ℕ → Option Alarm) where
   -- The reads for one block or for the start-up, from a moment on: how many samples it lacks, those that it has, and all
-  -- that the call has read. A read asks for what is lacking, 4,096 at most. After an alarm, a failed read or the end of the
+  -- that the call has read. After an alarm, a failed read or the end of the
   -- samples there is no further read.
   abbrev pub Gathers : ℕ → SourceState → List ℕ → List ℕ → List SourceAct → Result (List ℕ) SourceRefusal → Type 0
   Gathers lacks s has read [] result = (lacks ≡ 0) × (result ≡ Ok has)
   Gathers lacks s has read (Read asked None count ∷ acts) result =
-      (0 < lacks) × (asked ≡ min 4096 lacks) × Answers s asked None count × (acts ≡ []) × (result ≡ Err (SourceFault count))
+      (0 < lacks) × (asked ≡ asks lacks) × Answers s asked None count × (acts ≡ []) × (result ≡ Err (SourceFault count))
   Gathers lacks s has read (Read asked (Some []) count ∷ acts) result =
-      (0 < lacks) × (asked ≡ min 4096 lacks) × Answers s asked (Some []) count × (acts ≡ []) × (result ≡ Err (WantOfEntropy lacks))
+      (0 < lacks) × (asked ≡ asks lacks) × Answers s asked (Some []) count × (acts ≡ []) × (result ≡ Err (WantOfEntropy lacks))
   Gathers lacks s has read (Read asked (Some (x ∷ xs)) count ∷ acts) result =
-      (0 < lacks) × (asked ≡ min 4096 lacks) × Answers s asked (Some (x ∷ xs)) count
+      (0 < lacks) × (asked ≡ asks lacks) × Answers s asked (Some (x ∷ xs)) count
       × MatchOption (found read (x ∷ xs))
       (Gathers (lacks - length (x ∷ xs)) (source_after row s (Read asked (Some (x ∷ xs)) count)) (has ++ x ∷ xs) (read ++ x ∷ xs) acts result)
       (λ a. (acts ≡ Alarmed (s.taken + a.at) a.test ∷ []) × (result ≡ Err (HealthFailed (s.taken + a.at) a.test)))

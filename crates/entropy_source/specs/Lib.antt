@@ -4,4 +4,5 @@ pub mod Counted
 pub mod Outcomes
 pub mod Views
 pub mod Causes
-pub mod Steps
+pub mod Reads
+pub mod Scaffolding

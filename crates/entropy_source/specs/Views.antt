@@ -9,6 +9,7 @@ use Rattle.entropy_source.specs.Source.{SourceAct, SourceState, source_after_all
 use Rattle.entropy_source.specs.Draws.{Drawn, Start, found_in}
 use Rattle.entropy_source.specs.Counted.{samples_of, lacking_after}
 use Rattle.entropy_source.specs.Outcomes.{Outcome}
+use Rattle.entropy_source.specs.Reads.{LeadBy}
 use Rattle.entropy_source.specs.declared.answers.SourceRow.{SourceRow}
 use Rattle.entropy_source.specs.declared.answers.SourceMode.{SourceMode}
 use Rattle.entropy_source.specs.declared.answers.SourceMode.TheVariants.{Idle, Running, Alarmed}
@@ -85,29 +86,36 @@ abbrev pub without_bytes : {T : Type 0} → Result T SourceRefusal → Result (L
 without_bytes (Ok done) = Ok []
 without_bytes (Err why) = Err why
 
--- a start that isn't refused before the first sample: some acts are a start with this result, and the state is that after them
-pub record HasStarted {T : Type 0} (row : SourceRow) (result : Result T SourceRefusal) (old new : SourceState) : Type 0 where
+-- A start that isn't refused before the first sample: some acts are a start with this result, the state is the one after them,
+-- and their reads are those that were made.
+pub record HasStarted {S T : Type 0} (told : S → Option (List ℕ)) (faults : S → ℕ) (reads : S → ℕ → Option (List ℕ) → S → Type 0)
+    (result : Result T SourceRefusal) (old new : SourceView S) : Type 0 where
   pub acts : List SourceAct
-  pub start : Start row old acts (without_bytes result)
-  pub state : new ≡ source_after_all row old acts
+  pub start : Start old.row (source_state told faults old) acts (without_bytes result)
+  pub state : source_state told faults new ≡ source_after_all old.row (source_state told faults old) acts
+  -- one read after another, from the samples before the start to those after it
+  pub made : LeadBy reads faults old.samples acts new.samples
   -- HealthFailed comes exactly where there is an alarm among the samples read now, at the first one; WantOfEntropy exactly where
   -- a read gave none, with what the start-up still lacked; SourceFault exactly where a read failed
-  pub outcome : Outcome old.taken (alarm_in row.cutoffs [] (samples_of acts)) (row.startup - length (samples_of acts)) acts (without_bytes result)
+  pub outcome : Outcome old.taken (alarm_in old.row.cutoffs [] (samples_of acts)) (old.row.startup - length (samples_of acts)) acts (without_bytes result)
 
--- the answer to a draw of n bytes by the bytes of its blocks
-abbrev pub AnswersDraw : SourceState → SourceState → ℕ → List ℕ → Result (List ℕ) SourceRefusal → Result Range SourceRefusal → Type 0
-AnswersDraw old new n out bytes result =
-    MatchResult bytes (λ all. (result ≡ Ok (record { from = old.taken; to = new.taken })) × (out ≡ take n all)) (λ why. result ≡ Err why)
+-- the answer to a draw of n bytes, from one count of samples taken to another, by the bytes of its blocks
+abbrev pub AnswersDraw : ℕ → ℕ → ℕ → List ℕ → Result (List ℕ) SourceRefusal → Result Range SourceRefusal → Type 0
+AnswersDraw from to n out bytes result =
+    MatchResult bytes (λ all. (result ≡ Ok (record { from = from; to = to })) × (out ≡ take n all)) (λ why. result ≡ Err why)
 
--- a draw of n bytes that isn't refused before the first sample: some acts are a draw, with alarms told by what the tests keep
--- of the samples before, and the state is that after them
-pub record HasDrawn (row : SourceRow) (n : ℕ) (out : List ℕ) (result : Result Range SourceRefusal) (old new : SourceState) : Type 0 where
+-- A draw of n bytes that isn't refused before the first sample: some acts are a draw, with alarms told by what the tests keep of
+-- the samples before, the state is the one after them, and their reads are those that were made.
+pub record HasDrawn {S : Type 0} (told : S → Option (List ℕ)) (faults : S → ℕ) (reads : S → ℕ → Option (List ℕ) → S → Type 0)
+    (n : ℕ) (out : List ℕ) (result : Result Range SourceRefusal) (old new : SourceView S) : Type 0 where
   pub acts : List SourceAct
   pub bytes : Result (List ℕ) SourceRefusal
-  pub draw : Drawn row (found_in row.cutoffs old.tail) old (n ∷ []) acts bytes
-  pub state : new ≡ source_after_all row old acts
-  pub answer : AnswersDraw old new n out bytes result
+  pub draw : Drawn old.row (found_in old.row.cutoffs old.tail) (source_state told faults old) (n ∷ []) acts bytes
+  pub state : source_state told faults new ≡ source_after_all old.row (source_state told faults old) acts
+  -- one read after another, from the samples before the draw to those after it
+  pub made : LeadBy reads faults old.samples acts new.samples
+  pub answer : AnswersDraw old.taken new.taken n out bytes result
   -- which refusal comes, as of a start; the first alarm is told by what the tests kept of the samples before, and what is missing
   -- is what the present block still lacked
-  pub outcome : (t : Tail) → old.tail ≡ Some t
-      → Outcome old.taken (alarm_from row.cutoffs t (samples_of acts)) (lacking_after (need_of_block row) (need_of_block row) acts) acts bytes
+  pub outcome : (t : Tail) → old.tail ≡ Some t → Outcome old.taken (alarm_from old.row.cutoffs t (samples_of acts))
+      (lacking_after (need_of_block old.row) (need_of_block old.row) acts) acts bytes

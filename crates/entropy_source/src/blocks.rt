@@ -3,7 +3,7 @@ ghost use Rattle.std.specs.Prelude.{◌≡◌, ◌≤◌, ◌<◌, ◌+◌, ◌-
 ghost use Rattle.conditioner.specs.Conditioned.{block_len};
 ghost use Rattle.entropy_source.specs.Source.{blocks_for, need_of, need_of_block};
 ghost use Rattle.entropy_source.specs.Views.{source_state, HasDrawn};
-ghost use Rattle.entropy_source.specs.Steps.{Conditions, MakesBlock, Fills, EndsDraw};
+ghost use Rattle.entropy_source.specs.Scaffolding.{Conditions, MakesBlock, Fills, EndsDraw};
 
 use crate::answers::{Range, SourceRefusal};
 use crate::intake::Intake;
@@ -17,7 +17,7 @@ impl<S: Samples> Intake<S> {
         requires buffer { length buffer.old ≡ 4096 }
         requires room { self.old.taken + need_of_block self.old.row ≤ 2 ^ 60 }
         requires tested { IsSome self.old.tail }
-        ensures comes { Conditions self.old.row result (source_state S.told S.faults self.old) (source_state S.told S.faults self.new) }
+        ensures comes { Conditions S.told S.faults S.reads self.old.row result self.old self.new }
         ensures tested { OnOk result (IsSome self.new.tail) }
         ensures taken { OnOk result (self.new.taken ≡ self.old.taken + need_of_block self.old.row) }
         ensures fewer { OnOk result (self.new.blocks < self.new.taken) }
@@ -51,7 +51,7 @@ impl<S: Samples> Intake<S> {
         requires buffer { length buffer.old ≡ 4096 }
         requires room { self.old.taken + need_of_block self.old.row ≤ 2 ^ 60 }
         requires tested { IsSome self.old.tail }
-        ensures makes { MakesBlock self.old.row result (source_state S.told S.faults self.old) (source_state S.told S.faults self.new) }
+        ensures makes { MakesBlock S.told S.faults S.reads self.old.row result self.old self.new }
         ensures len { IfOk result (λ block. length block ≡ block_len self.old.row.cond) }
         ensures tested { OnOk result (IsSome self.new.tail) }
         ensures taken { OnOk result (self.new.taken ≡ self.old.taken + need_of_block self.old.row) }
@@ -72,8 +72,7 @@ impl<S: Samples> Intake<S> {
         requires few { length out.old ≤ 4096 }
         requires room { self.old.taken + blocks_for self.old.row (length out.old) * need_of_block self.old.row ≤ 2 ^ 60 }
         requires tested { IsSome self.old.tail }
-        ensures fills { Fills self.old.row (blocks_for self.old.row (length out.old)) out.new result
-            (source_state S.told S.faults self.old) (source_state S.told S.faults self.new) }
+        ensures fills { Fills S.told S.faults S.reads self.old.row (blocks_for self.old.row (length out.old)) out.new result self.old self.new }
         ensures row { self.new.row ≡ self.old.row }
     {
         let len = block_len(self.row.cond);
@@ -93,8 +92,7 @@ impl<S: Samples> Intake<S> {
         requires few { length out.old ≤ 4096 }
         requires room { self.old.taken + need_of self.old.row (length out.old ∷ []) ≤ 2 ^ 60 }
         requires tested { IsSome self.old.tail }
-        ensures acts { HasDrawn self.old.row (length out.old) out.new result
-            (source_state S.told S.faults self.old) (source_state S.told S.faults self.new) }
+        ensures acts { HasDrawn S.told S.faults S.reads (length out.old) out.new result self.old self.new }
         ensures ends { EndsDraw self.old.row (length out.old) result (source_state S.told S.faults self.old) (source_state S.told S.faults self.new) }
         ensures row { self.new.row ≡ self.old.row }
     {

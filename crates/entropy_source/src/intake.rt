@@ -3,7 +3,7 @@ ghost use Rattle.std.specs.Prelude.{◌≡◌, ◌≤◌, ◌<◌, ◌+◌, ◌-
 ghost use Rattle.health_tests.specs.Numbers.{no_tail};
 ghost use Rattle.entropy_source.specs.Source.{need_of};
 ghost use Rattle.entropy_source.specs.Views.{IsSource, opened_view, source_state, HasStarted};
-ghost use Rattle.entropy_source.specs.Steps.{Comes, WarmsUp, EndsStart};
+ghost use Rattle.entropy_source.specs.Scaffolding.{Comes, WarmsUp, EndsStart};
 
 use crate::answers::{SourceMode, SourceRefusal, SourceRow};
 use conditioner::{block_len, need};
@@ -113,8 +113,8 @@ impl<S: Samples> Intake<S> {
         requires lacking { 0 < lacks }
         requires room { self.old.taken + lacks ≤ 2 ^ 60 }
         requires tested { IsSome self.old.tail }
-        ensures comes { Comes self.old.row lacks (λ count. lacks - count) (λ count. take count buffer.new) result
-            (source_state S.told S.faults self.old) (source_state S.told S.faults self.new) }
+        ensures comes { Comes S.told S.faults S.reads self.old.row lacks (λ count. lacks - count) (λ count. take count buffer.new)
+            result self.old self.new }
         ensures count { IfOk result (λ count. (0 < count) × (count ≤ min 4096 lacks)) }
         ensures row { self.new.row ≡ self.old.row }
     {
@@ -170,7 +170,7 @@ impl<S: Samples> Intake<S> {
         requires buffer { length buffer.old ≡ 4096 }
         requires room { self.old.taken + self.old.row.startup ≤ 2 ^ 60 }
         requires tested { IsSome self.old.tail }
-        ensures comes { WarmsUp self.old.row result (source_state S.told S.faults self.old) (source_state S.told S.faults self.new) }
+        ensures comes { WarmsUp S.told S.faults S.reads self.old.row result self.old self.new }
         ensures tested { OnOk result (IsSome self.new.tail) }
         ensures row { self.new.row ≡ self.old.row }
     {
@@ -188,7 +188,7 @@ impl<S: Samples> Intake<S> {
     pub fn start(&mut self, buffer: &mut [u8]) -> Result<(), SourceRefusal>
         requires buffer { length buffer.old ≡ 4096 }
         requires room { self.old.taken + self.old.row.startup ≤ 2 ^ 60 }
-        ensures acts { HasStarted self.old.row result (source_state S.told S.faults self.old) (source_state S.told S.faults self.new) }
+        ensures acts { HasStarted S.told S.faults S.reads result self.old self.new }
         ensures ends { EndsStart self.old.row result (source_state S.told S.faults self.old) (source_state S.told S.faults self.new) }
         ensures row { self.new.row ≡ self.old.row }
     {

@@ -54,7 +54,7 @@ impl<S: Samples> EntropySource<S> {
         ensures spent { 2 ^ 60 < self.old.taken + self.old.row.startup →
             (result ≡ Err (SourceRefusal.SourceSpent self.old.taken self.old.row.startup)) × (self.new ≡ self.old) }
         ensures acts { self.old.taken + self.old.row.startup ≤ 2 ^ 60 →
-            HasStarted self.old.row result (source_state S.told S.faults self.old) (source_state S.told S.faults self.new) }
+            HasStarted S.told S.faults S.reads result self.old self.new }
         ensures row { self.new.row ≡ self.old.row }
 
         // What is so after each answer, and with it the cause of each refusal.
@@ -94,9 +94,7 @@ impl<S: Samples> EntropySource<S> {
         ensures error { 0 < length out.old → self.old.taken + need_of self.old.row (length out.old ∷ []) ≤ 2 ^ 60 →
             IfSome (error_of self.old.mode) (λ cause. (result ≡ Err (SourceRefusal.InError cause)) × (self.new ≡ self.old) × (out.new ≡ out.old)) }
         ensures acts { 0 < length out.old → self.old.taken + need_of self.old.row (length out.old ∷ []) ≤ 2 ^ 60 →
-            self.old.mode ≡ SourceMode.Running →
-            HasDrawn self.old.row (length out.old) out.new result
-            (source_state S.told S.faults self.old) (source_state S.told S.faults self.new) }
+            self.old.mode ≡ SourceMode.Running → HasDrawn S.told S.faults S.reads (length out.old) out.new result self.old self.new }
         ensures row { self.new.row ≡ self.old.row }
 
         // What is so after each answer, and with it the cause of each refusal.

@@ -11,7 +11,7 @@ invariant-loop-lacks g l = record {
   tested : IsSome l.self.tail;
   taken : l.self.taken + l.lacks ≡ l.fn.self.taken + need_of_block l.fn.self.row;
   blocks : l.self.blocks ≡ l.fn.self.blocks;
-  leads : Held l.fn.self.row (source_state g.S.Samples.told g.S.Samples.faults l.fn.self) (source_state g.S.Samples.told g.S.Samples.faults l.self) l.block l.lacks;
+  leads : Held g.S.Samples.told g.S.Samples.faults g.S.Samples.reads l.fn.self.row l.fn.self l.self l.block l.lacks;
 }
 
 abbrev pub decreases-loop-lacks : goal.decreases-loop-lacks

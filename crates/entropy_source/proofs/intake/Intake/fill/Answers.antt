@@ -6,7 +6,7 @@ use Rattle.conditioner.specs.Conditioned.{block_len}
 use Rattle.entropy_source.specs.declared.answers.SourceRow.{SourceRow}
 use Rattle.entropy_source.specs.Source.{need_of_block}
 use Rattle.entropy_source.specs.Views.{SourceView, source_state}
-use Rattle.entropy_source.specs.Steps.{StopsBlocks}
+use Rattle.entropy_source.specs.Scaffolding.{StopsBlocks}
 use Rattle.entropy_source.proofs.Filling.{filled_none, filled_more, filled_stops, within}
 use Rattle.entropy_source.proofs.intake.Intake.fill.Goals as goal
 
@@ -15,7 +15,7 @@ loop-i-init g c = record {
   row = refl;
   tested = c.requires.tested;
   taken = omega (arith, zero-mul (need_of_block c.args.self.now.row));
-  filled = filled_none c.args.self.now.row (source_state g.S.Samples.told g.S.Samples.faults c.args.self.now) c.div_ceil-blocks.result c.block_len-len.result c.args.out.now;
+  filled = filled_none g.S.Samples.told g.S.Samples.faults g.S.Samples.reads c.args.self.now.row c.args.self.now c.div_ceil-blocks.result c.block_len-len.result c.args.out.now;
 }
 
 -- one more of so many
@@ -41,9 +41,9 @@ block-requires-clause-room g c =
 pub returns-in-Err-clause-fills : goal.returns-in-Err-clause-fills
 returns-in-Err-clause-fills g c =
     let blocks = counted (λ (v : SourceView g.row.S.Denot). v.row.cond) _ _ (length c.args.out.now) c.block_len-len.result c.div_ceil-blocks.result c.self.view_is c.block_len-len.ensures.len c.div_ceil-blocks.ensures in
-    subst (λ k. StopsBlocks c.args.self.now.row (source_state g.S.Samples.told g.S.Samples.faults c.args.self.now) (source_state g.S.Samples.told g.S.Samples.faults c.block.new.self) k c.in-Err.why) (sym blocks)
-    (filled_stops c.args.self.now.row (source_state g.S.Samples.told g.S.Samples.faults c.args.self.now) c.div_ceil-blocks.result c.block_len-len.result
-    (source_state g.S.Samples.told g.S.Samples.faults c.loop-i.self) (source_state g.S.Samples.told g.S.Samples.faults c.block.new.self) c.loop-i.self.row c.loop-i.invariant.row
+    subst (λ k. StopsBlocks g.S.Samples.told g.S.Samples.faults g.S.Samples.reads c.args.self.now.row c.args.self.now c.block.new.self k c.in-Err.why) (sym blocks)
+    (filled_stops g.S.Samples.told g.S.Samples.faults g.S.Samples.reads c.args.self.now.row c.args.self.now c.div_ceil-blocks.result c.block_len-len.result
+    c.loop-i.self c.block.new.self c.loop-i.self.row c.loop-i.invariant.row
     c.loop-i.i c.loop-i-test.true c.loop-i.out c.in-Err.why c.loop-i.invariant.filled c.in-Err.ensures.makes)
 
 pub loop-i-preserved : goal.loop-i-preserved
@@ -58,8 +58,8 @@ loop-i-preserved g c =
       row = e.row ∙ c.loop-i.invariant.row;
       tested = e.tested;
       taken = omega (arith, e.taken, same, one, c.loop-i.invariant.taken);
-      filled = filled_more c.args.self.now.row (source_state g.S.Samples.told g.S.Samples.faults c.args.self.now) c.div_ceil-blocks.result c.block_len-len.result
-          (source_state g.S.Samples.told g.S.Samples.faults c.loop-i.self) (source_state g.S.Samples.told g.S.Samples.faults c.block.new.self) c.loop-i.self.row c.loop-i.invariant.row
+      filled = filled_more g.S.Samples.told g.S.Samples.faults g.S.Samples.reads c.args.self.now.row c.args.self.now c.div_ceil-blocks.result c.block_len-len.result
+          c.loop-i.self c.block.new.self c.loop-i.self.row c.loop-i.invariant.row
           c.loop-i.i c.loop-i-test.true c.loop-i.out c.put_block.new.out c.in-Ok.block c.loop-i.invariant.filled e.makes (e.len ∙ len)
           (omega (arith, at, c.loop-i.auto.out)) c.put_block.auto.out
           (subst (λ b. take (c.loop-i.i * c.block_len-len.result + length b) c.put_block.new.out

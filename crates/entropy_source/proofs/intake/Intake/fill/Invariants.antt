@@ -10,6 +10,6 @@ invariant-loop-i g l = record {
   row : l.self.row ≡ l.fn.self.row;
   tested : IsSome l.self.tail;
   taken : l.self.taken ≡ l.fn.self.taken + l.i * need_of_block l.fn.self.row;
-  filled : Filled l.fn.self.row (source_state g.S.Samples.told g.S.Samples.faults l.fn.self) l.blocks l.len
-      (source_state g.S.Samples.told g.S.Samples.faults l.self) l.i l.out;
+  filled : Filled g.S.Samples.told g.S.Samples.faults g.S.Samples.reads l.fn.self.row l.fn.self l.blocks l.len
+      l.self l.i l.out;
 }

@@ -9,7 +9,7 @@ invariant-loop-lacks g l = record {
   row : l.self.row ≡ l.fn.self.row;
   tested : IsSome l.self.tail;
   room : l.self.taken + l.lacks ≤ 2 ^ 60;
-  leads : Left l.fn.self.row (source_state g.S.Samples.told g.S.Samples.faults l.fn.self) l.fn.self.row.startup (source_state g.S.Samples.told g.S.Samples.faults l.self) l.lacks;
+  leads : Left g.S.Samples.told g.S.Samples.faults g.S.Samples.reads l.fn.self.row l.fn.self l.fn.self.row.startup l.self l.lacks;
 }
 
 abbrev pub decreases-loop-lacks : goal.decreases-loop-lacks

@@ -5,8 +5,7 @@ use Rattle.entropy_source.proofs.source.EntropySource.draw.Goals as goal
 
 pub returns-clause-acts : goal.returns-clause-acts
 returns-clause-acts g c some fits running =
-    subst (λ (v : SourceView g.row.S.Denot). HasDrawn v.row (length c.args.out.now) c.draw.new.out c.draw.result
-    (source_state g.S.Samples.told g.S.Samples.faults v) (source_state g.S.Samples.told g.S.Samples.faults c.draw.new.self)) c.self.view_is c.draw.ensures.acts
+    subst (λ (v : SourceView g.row.S.Denot). HasDrawn g.S.Samples.told g.S.Samples.faults g.S.Samples.reads (length c.args.out.now) c.draw.new.out c.draw.result v c.draw.new.self) c.self.view_is c.draw.ensures.acts
 
 pub returns-clause-drawn : goal.returns-clause-drawn
 returns-clause-drawn g c =

@@ -5,7 +5,7 @@ use Rattle.entropy_source.proofs.source.EntropySource.start.Goals as goal
 
 pub returns-clause-acts : goal.returns-clause-acts
 returns-clause-acts g c fits =
-    subst (λ (v : SourceView g.row.S.Denot). HasStarted v.row c.start.result (source_state g.S.Samples.told g.S.Samples.faults v) (source_state g.S.Samples.told g.S.Samples.faults c.start.new.self)) c.self.view_is c.start.ensures.acts
+    subst (λ (v : SourceView g.row.S.Denot). HasStarted g.S.Samples.told g.S.Samples.faults g.S.Samples.reads c.start.result v c.start.new.self) c.self.view_is c.start.ensures.acts
 
 pub returns-clause-passed : goal.returns-clause-passed
 returns-clause-passed g c =

@@ -1,0 +1,13 @@
+-- How the reads among a source's acts lead from samples to samples.
+-- This project's own.
+use Rattle.std.specs.Prelude.{◌≡◌, ℕ, List, [], ◌∷◌, Option}
+use Rattle.entropy_source.specs.Source.{SourceAct, Read}
+
+-- The reads among the acts are all reads that were made from the first samples to the last, in order: each leads, as `reads`
+-- says, from the samples before it to those after it, by as many samples as it asked for and those that it gave, and counts the
+-- faults that they have then.
+abbrev pub LeadBy : {S : Type 0} → (S → ℕ → Option (List ℕ) → S → Type 0) → (S → ℕ) → S → List SourceAct → S → Type 0
+LeadBy reads faults before [] after = before ≡ after
+LeadBy {S = S} reads faults before (Read asked got count ∷ acts) after =
+    (next : S) × reads before asked got next × (count ≡ faults next) × LeadBy reads faults next acts after
+LeadBy reads faults before (_ ∷ acts) after = LeadBy reads faults before acts after
