@@ -41,13 +41,6 @@ module _ {S : Type 0} (told : S → Option (List ℕ)) (faults : S → ℕ) (rea
     held_stops why (got, first, holds) second =
         leads_stops told faults reads row v m w (need_of_block row) left got first why (subst (λ r. Stops told faults reads r m w left why) is second)
 
-  pub held_all : (w : SourceView S) (block : held.Block) (left : ℕ) (bytes : List ℕ) → left ≡ 0 → Held w block left
-      → ((got : List ℕ) → HoldsSamples block row.cond (need_of_block row) got → length got ≡ need_of_block row → bytes ≡ conditioned row.cond got)
-      → (got : List ℕ) × Leads told faults reads row v w (need_of_block row) 0 got × (bytes ≡ conditioned row.cond got)
-  held_all w block left bytes none (got, leads, holds) done =
-      let count : length got ≡ need_of_block row = omega (arith, leads.count) in
-      (got, subst (λ k. Leads told faults reads row v w (need_of_block row) k got) none leads, done got holds count)
-
 -- the length of a block
 pub made_len : {S : Type 0} (told : S → Option (List ℕ)) (faults : S → ℕ) (reads : S → ℕ → Option (List ℕ) → S → Type 0) (row : SourceRow)
     (v w : SourceView S) (bytes : List ℕ)

@@ -8,7 +8,7 @@ use Rattle.health_tests.specs.Numbers.{tail_of, tail_after}
 use Rattle.health_tests.proofs.Counting.{tail_begins, tail_grows}
 use Rattle.entropy_source.specs.declared.answers.SourceRow.{SourceRow}
 use Rattle.entropy_source.specs.Source.{SourceAct, Began, Read, Alarmed, Started, Block, SourceState, given, source_after, source_after_all, opened_source}
-use Rattle.entropy_source.specs.Counted.{samples_of, blocks_of, alarms_of, mode_after, tested_after, alarmed_after}
+use Rattle.entropy_source.specs.Counted.{samples_of, blocks_of, alarms_of, mode_after, tested_after, alarmed_after, faults_after}
 
 module _ (row : SourceRow) where
   pub taken_of : (s : SourceState) (acts : List SourceAct) → (source_after_all row s acts).taken ≡ s.taken + length (samples_of acts)
@@ -61,6 +61,14 @@ module _ (row : SourceRow) where
   mode_in s (Started ∷ acts) = mode_in (source_after row s Started) acts
   mode_in s (Block from to bytes ∷ acts) = mode_in (source_after row s (Block from to bytes)) acts
 
+  pub faults_in : (s : SourceState) (acts : List SourceAct) → (source_after_all row s acts).faults ≡ faults_after s.faults acts
+  faults_in s [] = refl
+  faults_in s (Began ∷ acts) = faults_in (source_after row s Began) acts
+  faults_in s (Read asked got count ∷ acts) = faults_in (source_after row s (Read asked got count)) acts
+  faults_in s (Alarmed index test ∷ acts) = faults_in (source_after row s (Alarmed index test)) acts
+  faults_in s (Started ∷ acts) = faults_in (source_after row s Started) acts
+  faults_in s (Block from to bytes ∷ acts) = faults_in (source_after row s (Block from to bytes)) acts
+
   -- what the tests keep, where they have not alarmed
   abbrev Keeps : Bool → List ℕ → Option Tail → Type 0
   Keeps true x tail = tail ≡ None
@@ -84,4 +92,10 @@ module _ (row : SourceRow) where
       → (source_after_all row (opened_source told faults) acts).tail ≡ Some (tail_of row.cutoffs.window (tested_after [] acts))
   tail_quiet told faults acts none =
       subst (λ b. Keeps b (tested_after [] acts) (source_after_all row (opened_source told faults) acts).tail) none
+      (tail_in false [] (opened_source told faults) acts (ap Some (sym (tail_begins row.cutoffs.window))))
+
+  pub tail_alarmed : (told : Option (List ℕ)) (faults : ℕ) (acts : List SourceAct) → alarmed_after false acts ≡ true
+      → (source_after_all row (opened_source told faults) acts).tail ≡ None
+  tail_alarmed told faults acts some =
+      subst (λ b. Keeps b (tested_after [] acts) (source_after_all row (opened_source told faults) acts).tail) some
       (tail_in false [] (opened_source told faults) acts (ap Some (sym (tail_begins row.cutoffs.window))))

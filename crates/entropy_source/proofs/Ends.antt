@@ -1,6 +1,6 @@
 -- A draw from its blocks, and what is so of a source after a start and after a draw.
 use Rattle.std.proofs.Common.{◌≡◌, ◌≤◌, ◌<◌, ◌+◌, ◌*◌, ℕ, List, [], ◌∷◌, length, take, refl, sym, ap, ◌∙◌, subst, arith, append-nil, zero-add, zero-mul}
-use Rattle.std.specs.Prelude.{Option, Some, None, IsSome, IfErr, OnOk, Result, Ok, Err, MatchResult}
+use Rattle.std.specs.Prelude.{Option, Some, None, IsSome, IfErr, OnOk, OnErr, Result, Ok, Err, MatchResult, replicate}
 use Rattle.rbg_bytes.specs.Streams.{Rose}
 use Rattle.health_tests.specs.declared.numbers.Tail.{Tail}
 use Rattle.health_tests.specs.Numbers.{alarm_from}
@@ -16,7 +16,7 @@ use Rattle.entropy_source.specs.Draws.{Draws, Drawn, found_in}
 use Rattle.entropy_source.specs.Counted.{samples_of, lacking_after}
 use Rattle.entropy_source.specs.Outcomes.{Outcome}
 use Rattle.entropy_source.specs.Views.{SourceView, source_state, HasDrawn, error_of}
-use Rattle.entropy_source.specs.Causes.{IfSpent, IfInError, IfFault, IfHealthFailed, IfWant}
+use Rattle.entropy_source.specs.Causes.{IfSpent, IfInError, IfFault, IfHealthFailed, IfWant, IsLetGo}
 use Rattle.entropy_source.specs.Scaffolding.{IsLeft, LeadsBlocks, StopsBlocks, EndsStart, EndsDraw}
 use Rattle.entropy_source.proofs.Answering.{drawn_ends}
 
@@ -153,6 +153,18 @@ module _ {T : Type 0} (s now : SourceState) (lacks : ℕ) (Q : Type 0) where
       → IfErr result (λ why. IfWant why (λ missing. (now.faults ≡ s.faults) × (now.mode ≡ s.mode) × (0 < missing) × (missing ≤ lacks)))
   want_clause (Ok x) h = tt
   want_clause (Err why) h = want_of s now lacks why h
+
+-- what the buffer holds after a refusal, when it was filled with zeros
+pub let_go : {T : Type 0} (here : SourceRow) (n : ℕ) (s now : SourceState) (result : Result T SourceRefusal) (old new : List ℕ) → EndsDraw here n result s now
+    → OnErr result (new ≡ replicate (length old) 0) → IfErr result (λ why. IsLetGo why old new)
+let_go here n s now (Ok x) old new h wiped = tt
+let_go here n s now (Err why) old new h wiped = by why h where
+  by : (why : SourceRefusal) → IsLeft s now (need_of_block here) why → IsLetGo why old new
+  by (SourceSpent taken need) h = absurd h
+  by (InError cause) h = absurd h
+  by (SourceFault count) h = wiped
+  by (HealthFailed index test) h = wiped
+  by (WantOfEntropy missing) h = wiped
 
 -- a source that is not in error runs
 running : (m : SourceMode) → error_of m ≡ None → m ≡ modes.Running

@@ -75,12 +75,3 @@ module _ {S : Type 0} (told : S → Option (List ℕ)) (faults : S → ℕ) (rea
         let made : StopsBlocks told faults reads row m w (blocks - i) why =
         subst (λ k. StopsBlocks told faults reads row m w k why) one_less (subst (λ r. StopsBlocks told faults reads r m w (suc (blocks - (i + 1))) why) is (second (blocks - (i + 1)))) in
         blocks_stop told faults reads row v m w blocks (blocks - i) bytes first why made
-
-  pub filled_all : (w : SourceView S) (out : List ℕ) (wanted : ℕ) → wanted ≡ blocks → length out ≤ blocks * len → Filled w blocks out
-      → (bytes : List ℕ) × LeadsBlocks told faults reads row v w wanted 0 bytes × (out ≡ take (length out) bytes)
-  filled_all w out wanted is enough (bytes, leads, lb, all) =
-      let none : blocks - blocks ≡ 0 = omega arith in (
-        bytes,
-        subst (λ k. LeadsBlocks told faults reads row v w k 0 bytes) (sym is) (subst (λ k. LeadsBlocks told faults reads row v w blocks k bytes) none leads),
-        sym (take_all (blocks * len) out enough) ∙ all,
-      )

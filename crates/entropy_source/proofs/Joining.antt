@@ -7,11 +7,11 @@ use Rattle.health_tests.specs.Numbers.{tail_step, tail_after}
 use Rattle.entropy_source.specs.declared.answers.SourceRow.{SourceRow}
 use Rattle.entropy_source.specs.declared.answers.SourceRefusal.{SourceRefusal}
 use Rattle.entropy_source.specs.declared.answers.SourceRefusal.TheVariants.{SourceSpent, InError, SourceFault, HealthFailed, WantOfEntropy}
-use Rattle.entropy_source.specs.Source.{SourceAct, Began, Read, Alarmed, Started, Block, SourceState, source_after, source_after_all}
+use Rattle.entropy_source.specs.Source.{SourceAct, SourceState, source_after, source_after_all}
 use Rattle.entropy_source.specs.Draws.{Gathers, found_in}
-use Rattle.entropy_source.specs.Reads.{LeadBy}
 use Rattle.entropy_source.specs.Views.{SourceView, source_state}
 use Rattle.entropy_source.specs.Scaffolding.{IsLeft, LeadsTo, Leads, Stops}
+use Rattle.entropy_source.proofs.Leading.{lead_on}
 
 -- the state after two rows of acts
 pub after_append : (row : SourceRow) (s : SourceState) (xs ys : List SourceAct) → source_after_all row s (xs ++ ys) ≡ source_after_all row (source_after_all row s xs) ys
@@ -30,16 +30,6 @@ left_before s mid now lacks left (InError cause) m f l h = h
 left_before s mid now lacks left (SourceFault count) m f l (a, b, c) = (subst (λ z. Rose z now.faults) f a, b, c ∙ m)
 left_before s mid now lacks left (HealthFailed index test) m f l (a, b) = (a ∙ f, b)
 left_before s mid now lacks left (WantOfEntropy missing) m f l (a, b, c, d) = (a ∙ f, b ∙ m, c, omega arith)
-
--- reads that lead from samples to samples, and others that lead on from there
-pub lead_on : {S : Type 0} (reads : S → ℕ → Option (List ℕ) → S → Type 0) (faults : S → ℕ) (a b c : S) (xs ys : List SourceAct)
-    → LeadBy reads faults a xs b → LeadBy reads faults b ys c → LeadBy reads faults a (xs ++ ys) c
-lead_on reads faults a b c [] ys first second = subst (λ z. LeadBy reads faults z ys c) (sym first) second
-lead_on reads faults a b c (Read asked got count ∷ xs) ys (next, one, is, first) second = (next, one, is, lead_on reads faults next b c xs ys first second)
-lead_on reads faults a b c (Began ∷ xs) ys first second = lead_on reads faults a b c xs ys first second
-lead_on reads faults a b c (Alarmed index test ∷ xs) ys first second = lead_on reads faults a b c xs ys first second
-lead_on reads faults a b c (Started ∷ xs) ys first second = lead_on reads faults a b c xs ys first second
-lead_on reads faults a b c (Block from to bytes ∷ xs) ys first second = lead_on reads faults a b c xs ys first second
 
 module _ {S : Type 0} (told : S → Option (List ℕ)) (faults : S → ℕ) (reads : S → ℕ → Option (List ℕ) → S → Type 0) (row : SourceRow) where
   abbrev of : SourceView S → SourceState

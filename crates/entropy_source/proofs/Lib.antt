@@ -1,4 +1,5 @@
 mod Stands
+pub mod Leading
 mod Reading
 mod Joining
 mod Fresh

@@ -13,7 +13,7 @@ use Rattle.conditioner.specs.Conditioned.{conditioned, block_len}
 use Rattle.conditioner.proofs.Blocks.{length-conditioned}
 use Rattle.entropy_source.specs.declared.answers.SourceRow.{SourceRow}
 use Rattle.entropy_source.specs.declared.answers.SourceRefusal.{SourceRefusal}
-use Rattle.entropy_source.specs.Source.{SourceAct, Block, SourceState, source_after, source_after_all, blocks_for}
+use Rattle.entropy_source.specs.Source.{SourceAct, Block, SourceState, source_after, source_after_all, blocks_for, need_of, need_of_block}
 use Rattle.entropy_source.specs.Draws.{Draws, Drawn, portions, found_in}
 use Rattle.entropy_source.specs.Counted.{behind}
 use Rattle.entropy_source.proofs.Filling.{enough}
@@ -65,7 +65,7 @@ module _ (row : SourceRow) where
       ∙ (sum_by-cons (λ n. blocks_for row n) n wants ∙ ap (λ k. blocks_for row n + k) (sym (sum-map (λ n. blocks_for row n) wants))))
       ∙ add-mul (blocks_for row n) (blocks wants) (block_len row.cond)
 
-  blocks_append : (xs ys : List ℕ) → blocks (xs ++ ys) ≡ blocks xs + blocks ys
+  pub blocks_append : (xs ys : List ℕ) → blocks (xs ++ ys) ≡ blocks xs + blocks ys
   blocks_append xs ys =
       sum-map (λ n. blocks_for row n) (xs ++ ys) ∙ (sum_by-append (λ n. blocks_for row n) xs ys
       ∙ (ap (λ k. k + sum_by (λ n. blocks_for row n) ys) (sym (sum-map (λ n. blocks_for row n) xs)) ∙ ap (λ k. blocks xs + k) (sym (sum-map (λ n. blocks_for row n) ys))))
@@ -92,3 +92,41 @@ pub wants_on : (row : SourceRow) (t : Tail) (xs ys : List ℕ) (s : SourceState)
 wants_on row t xs ys s acts mid more end tl first second =
     subst (λ k. Draws row (found_in row.cutoffs (Some t)) k s [] [] (acts ++ more) (behind mid end)) (sym (blocks_append row xs ys))
     (draws_on row t (blocks row xs) (blocks row ys) s acts mid more end tl first second)
+
+-- the samples of draws of all lengths
+pub need_append : (row : SourceRow) (xs ys : List ℕ) → need_of row (xs ++ ys) ≡ need_of row xs + need_of row ys
+need_append row xs ys = ap (λ k. k * need_of_block row) (blocks_append row xs ys) ∙ add-mul (blocks row xs) (blocks row ys) (need_of_block row)
+
+module _ (row : SourceRow) (found : List ℕ → List ℕ → Option Alarm) where
+  -- what becomes of the blocks behind the samples of one
+  abbrev Follows : ℕ → SourceState → List ℕ → List ℕ → List SourceAct → List SourceAct → Result (List ℕ) SourceRefusal → Result (List ℕ) SourceRefusal → Type 0
+  Follows n s read out reads rest end result =
+      MatchResult end
+      (λ block. let bytes = conditioned row.cond block in
+      let now = source_after_all row s reads in
+      let made = Block s.taken now.taken bytes in
+      (more : List SourceAct) × (rest ≡ made ∷ more) × Draws row found n (source_after row now made) (read ++ block) (out ++ bytes) more result)
+      (λ why. (rest ≡ []) × (result ≡ Err why))
+
+  -- a draw that was refused is refused for more blocks
+  pub draws_refused : (n m : ℕ) (s : SourceState) (read out : List ℕ) (acts : List SourceAct) (why : SourceRefusal)
+      → Draws row found n s read out acts (Err why) → Draws row found (n + m) s read out acts (Err why)
+  draws_refused zero m s read out acts why (a, b) = cc
+  draws_refused (suc n) m s read out acts why (reads, rest, end, are, g, w) =
+      let e : suc n + m ≡ suc (n + m) = omega arith in
+      subst (λ k. Draws row found k s read out acts (Err why)) (sym e)
+      (reads, rest, end, are, g, by end w (λ s read out acts d. draws_refused n m s read out acts why d)) where
+        by : (end : Result (List ℕ) SourceRefusal) → Follows n s read out reads rest end (Err why)
+            → ((s : SourceState) (read out : List ℕ) (acts : List SourceAct) → Draws row found n s read out acts (Err why) → Draws row found (n + m) s read out acts (Err why))
+            → Follows (n + m) s read out reads rest end (Err why)
+        by (Ok block) (more, is, d) ih =
+            let now = source_after_all row s reads in
+            let made = Block s.taken now.taken (conditioned row.cond block) in
+            (more, is, ih (source_after row now made) (read ++ block) (out ++ conditioned row.cond block) more d)
+        by (Err x) h ih = h
+
+-- the same of draws of several wants
+pub wants_refused : (row : SourceRow) (found : List ℕ → List ℕ → Option Alarm) (s : SourceState) (xs ys : List ℕ) (acts : List SourceAct) (why : SourceRefusal)
+    → Drawn row found s xs acts (Err why) → Drawn row found s (xs ++ ys) acts (Err why)
+wants_refused row found s xs ys acts why d =
+    subst (λ k. Draws row found k s [] [] acts (Err why)) (sym (blocks_append row xs ys)) (draws_refused row found (blocks row xs) (blocks row ys) s [] [] acts why d)

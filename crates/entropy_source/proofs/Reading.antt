@@ -1,5 +1,5 @@
 -- One read for a block or the start-up, in each way that it may end.
-use Rattle.std.proofs.Common.{◌≡◌, ◌≤◌, ◌<◌, ◌+◌, ◌-◌, ℕ, List, [], ◌∷◌, ◌++◌, length, min, refl, sym, ap, ◌∙◌, subst, arith}
+use Rattle.std.proofs.Common.{◌≡◌, ◌≤◌, ◌<◌, ◌+◌, ◌-◌, ℕ, List, [], ◌∷◌, ◌++◌, length, refl, sym, ap, ◌∙◌, subst, arith}
 use Rattle.std.specs.Prelude.{Option, Some, None, IfSome, IsSome, Result, Err, MatchOption}
 use Rattle.std.specs.Option.{option_map}
 use Rattle.std.specs.Io.KnownBytes.{Keeps, Consumes, IsAtEnd}
@@ -15,11 +15,11 @@ use Rattle.entropy_source.specs.declared.answers.SourceMode.{SourceMode}
 use Rattle.entropy_source.specs.declared.answers.SourceMode.TheVariants as modes
 use Rattle.entropy_source.specs.declared.answers.SourceRefusal.{SourceRefusal}
 use Rattle.entropy_source.specs.declared.answers.SourceRefusal.TheVariants.{SourceFault, HealthFailed, WantOfEntropy}
-use Rattle.entropy_source.specs.Source.{SourceAct, SourceState, Read, Alarmed, source_after, source_after_all}
+use Rattle.entropy_source.specs.Source.{SourceAct, SourceState, Read, Alarmed, source_after}
 use Rattle.entropy_source.specs.Draws.{AreNext, Answers, Gathers, asks, found_in}
 use Rattle.entropy_source.specs.Views.{SourceView, source_state, kept_tail}
 use Rattle.entropy_source.specs.Reads.{LeadBy}
-use Rattle.entropy_source.specs.Scaffolding.{LeadsTo, Leads, Stops}
+use Rattle.entropy_source.specs.Scaffolding.{Leads, Stops}
 use Rattle.entropy_source.proofs.Stands.{are_next, kept, kept_some, read_state}
 
 same_tail : (w : ℕ) (o : Option Tail) → o ≡ option_map (λ t. tail_after w t []) o

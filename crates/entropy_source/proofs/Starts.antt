@@ -1,11 +1,11 @@
 -- A start, from its reads.
-use Rattle.std.proofs.Common.{◌≡◌, ◌+◌, ℕ, List, [], ◌∷◌, ◌++◌, refl, sym, ap, ◌∙◌, subst, arith, append-nil}
+use Rattle.std.proofs.Common.{◌≡◌, ◌+◌, ℕ, List, [], ◌∷◌, ◌++◌, refl, sym, ap, subst, arith, append-nil}
 use Rattle.std.specs.Prelude.{Option, Some, Result, Ok, Err}
 use Rattle.health_tests.specs.Numbers.{no_tail}
 use Rattle.entropy_source.specs.declared.answers.SourceMode.TheVariants as modes
 use Rattle.entropy_source.specs.declared.answers.SourceRow.{SourceRow}
 use Rattle.entropy_source.specs.declared.answers.SourceRefusal.{SourceRefusal}
-use Rattle.entropy_source.specs.Source.{SourceAct, Began, Started, SourceState, source_after, source_after_all}
+use Rattle.entropy_source.specs.Source.{SourceAct, Began, Started, SourceState, source_after}
 use Rattle.entropy_source.specs.Draws.{Gathers, Start}
 use Rattle.entropy_source.specs.Views.{SourceView, source_state, without_bytes, HasStarted}
 use Rattle.entropy_source.specs.Scaffolding.{IsLeft, LeadsTo, Leads, Stops}

@@ -1,5 +1,5 @@
 -- What is counted on acts in a row: the samples that they read, the blocks, the alarms, the mode in which they leave a source,
--- the samples since the tests were fresh, and what a block or a start-up lacks.
+-- the samples since the tests were fresh, the faults, and what a block or a start-up lacks.
 -- This project's own.
 use Rattle.std.specs.Prelude.{ℕ, ◌+◌, ◌-◌, List, [], ◌∷◌, ◌++◌, length, Bool, true, false, Some, None, Result, Ok, Err}
 use Rattle.entropy_source.specs.Source.{SourceAct, Began, Read, Alarmed, Started, Block, given}
@@ -44,6 +44,12 @@ alarmed_after before [] = before
 alarmed_after before (Began ∷ acts) = alarmed_after false acts
 alarmed_after before (Alarmed index test ∷ acts) = alarmed_after true acts
 alarmed_after before (_ ∷ acts) = alarmed_after before acts
+
+-- the count of faults after the last read, or the one before the acts where there is none
+abbrev pub faults_after : ℕ → List SourceAct → ℕ
+faults_after before [] = before
+faults_after before (Read asked got count ∷ acts) = faults_after count acts
+faults_after before (_ ∷ acts) = faults_after before acts
 
 -- what the present block lacks, each being of so many samples, where it lacked so many before the acts; and so the start-up
 abbrev pub lacking_after : ℕ → ℕ → List SourceAct → ℕ

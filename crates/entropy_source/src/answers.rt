@@ -2,8 +2,9 @@
 use health_tests::{Cutoffs, Test};
 use rbg_bytes::Cond;
 
-/// What is set of a source: the min-entropy of a sample, `num / den` bits, by its assessment; the cutoffs of the health
-/// tests, in samples; the samples of the start-up tests, 1 to 65,536; and the conditioning component (SP 800-90B 3.1.5, 4.3).
+/// What is set of a source: the min-entropy of a sample, `num / den` bits, by its assessment; the cutoffs of the health tests, in
+/// samples (SP 800-90B 4.4.1, 4.4.2); the samples of the start-up tests, 1 to 65,536 (4.3); and the conditioning component
+/// (3.1.5.1.1).
 #[derive(Clone, Copy, Debug, PartialEq, Eq)]
 pub struct SourceRow {
     pub num: u32,

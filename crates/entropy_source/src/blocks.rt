@@ -1,5 +1,5 @@
 // Conditioned blocks, each of samples of its own, and bytes filled with them.
-ghost use Rattle.std.specs.Prelude.{◌≡◌, ◌≤◌, ◌<◌, ◌+◌, ◌-◌, ◌*◌, ◌^◌, [], ◌∷◌, ◌++◌, length, take, IsSome, OnOk, IfOk};
+ghost use Rattle.std.specs.Prelude.{◌≡◌, ◌≤◌, ◌<◌, ◌+◌, ◌*◌, ◌^◌, [], ◌∷◌, length, replicate, IsSome, OnOk, OnErr, IfOk};
 ghost use Rattle.conditioner.specs.Conditioned.{block_len};
 ghost use Rattle.entropy_source.specs.Source.{blocks_for, need_of, need_of_block};
 ghost use Rattle.entropy_source.specs.Views.{source_state, HasDrawn};
@@ -8,7 +8,7 @@ ghost use Rattle.entropy_source.specs.Scaffolding.{Conditions, MakesBlock, Fills
 use crate::answers::{Range, SourceRefusal};
 use crate::intake::Intake;
 use conditioner::{Block, block_len, need};
-use rbg_bytes::Fixed;
+use rbg_bytes::{Fixed, put_fitting};
 use sample_source::Samples;
 
 impl<S: Samples> Intake<S> {
@@ -79,20 +79,23 @@ impl<S: Samples> Intake<S> {
         let blocks = out.len().div_ceil(len);
         for i in 0..blocks {
             match self.block(buffer) {
-                Ok(block) => put_block(out, i * len, block.as_slice()),
+                Ok(block) => {
+                    put_fitting(out, i * len, block.as_slice());
+                }
                 Err(why) => return Err(why),
             }
         }
         Ok(())
     }
 
-    // A draw from a source that is not in error.
+    // A draw from a source that is not in error. Where it is refused, the bytes are zeros, so that no block stays in them.
     pub fn draw(&mut self, out: &mut [u8], buffer: &mut [u8]) -> Result<Range, SourceRefusal>
         requires buffer { length buffer.old ≡ 4096 }
         requires few { length out.old ≤ 4096 }
         requires room { self.old.taken + need_of self.old.row (length out.old ∷ []) ≤ 2 ^ 60 }
         requires tested { IsSome self.old.tail }
         ensures acts { HasDrawn S.told S.faults S.reads (length out.old) out.new result self.old self.new }
+        ensures wiped { OnErr result (out.new ≡ replicate (length out.old) 0) }
         ensures ends { EndsDraw self.old.row (length out.old) result (source_state S.told S.faults self.old) (source_state S.told S.faults self.new) }
         ensures row { self.new.row ≡ self.old.row }
     {
@@ -102,16 +105,10 @@ impl<S: Samples> Intake<S> {
                 from,
                 to: self.taken(),
             }),
-            Err(why) => Err(why),
+            Err(why) => {
+                out.fill(0);
+                Err(why)
+            }
         }
     }
-}
-
-// Puts as many bytes of the block as there is room for at a place.
-fn put_block(out: &mut [u8], at: usize, block: &[u8])
-    requires { at ≤ length out.old }
-    ensures { take (at + length block.now) out.new ≡ take at out.old ++ take (length out.old - at) block.now }
-{
-    let count = block.len().min(out.len() - at);
-    out[at..at + count].copy_from_slice(&block[..count]);
 }

@@ -107,7 +107,8 @@ impl<S: Samples> Intake<S> {
         blocks * u64::from(need(self.row.cond, self.row.num, self.row.den))
     }
 
-    // One read for what a block or the start-up lacks, to the front of the buffer. Its samples are counted and tested.
+    // One read for what a block or the start-up lacks, 4,096 samples at most, to the front of the buffer. All its samples are
+    // counted, and tested up to the first alarm.
     pub fn read(&mut self, lacks: u32, buffer: &mut [u8]) -> Result<usize, SourceRefusal>
         requires buffer { length buffer.old ≡ 4096 }
         requires lacking { 0 < lacks }
@@ -184,7 +185,7 @@ impl<S: Samples> Intake<S> {
         Ok(())
     }
 
-    // A start: the tests are fresh, and it is passed where no alarm came.
+    // A start: the tests are fresh, and it is passed where all samples of the start-up were read and none is an alarm.
     pub fn start(&mut self, buffer: &mut [u8]) -> Result<(), SourceRefusal>
         requires buffer { length buffer.old ≡ 4096 }
         requires room { self.old.taken + self.old.row.startup ≤ 2 ^ 60 }

@@ -1,23 +1,27 @@
 // Laws on acts in a row: each is a function without a body, whose contract is the law. No program calls them; they tie the step
 // from state to state to what is counted on all acts, and an answer to its acts.
-ghost use Rattle.std.specs.Prelude.{◌≡◌, ◌+◌, ◌-◌, ◌*◌, ◌++◌, ℕ, List, [], length, drop, map, sum, false, Option, Some, Result, Ok};
+ghost use Rattle.std.specs.Prelude.{◌≡◌, ◌+◌, ◌-◌, ◌*◌, ◌++◌, ℕ, List, [], length, drop, map, sum, true, false, Option, Some, None, Result, Ok, Err};
 ghost use Rattle.std.specs.Option.{option_map};
 ghost use Rattle.health_tests.specs.Windows.{alarm_in};
 ghost use Rattle.health_tests.specs.Numbers.{tail_of, alarm_from};
 ghost use Rattle.health_tests.specs.declared.numbers.Tail.{Tail};
 ghost use Rattle.health_tests.specs.declared.windows.Alarm.{Alarm};
 ghost use Rattle.conditioner.specs.Conditioned.{block_len};
-ghost use Rattle.entropy_source.specs.Source.{SourceAct, SourceState, opened_source, source_after_all, blocks_for, need_of_block};
+ghost use Rattle.entropy_source.specs.Source.{SourceAct, SourceState, opened_source, source_after_all, blocks_for, need_of, need_of_block};
 ghost use Rattle.entropy_source.specs.Draws.{Draws, Drawn, Start, portions, found_in};
-ghost use Rattle.entropy_source.specs.Counted.{samples_of, blocks_of, alarms_of, mode_after, tested_after, alarmed_after, lacking_after, behind};
+ghost use Rattle.entropy_source.specs.Counted.{samples_of, blocks_of, alarms_of, mode_after, tested_after, alarmed_after, faults_after, lacking_after, behind};
 ghost use Rattle.entropy_source.specs.Outcomes.{Outcome};
+ghost use Rattle.entropy_source.specs.Reads.{LeadBy};
 ghost use Rattle.entropy_source.specs.declared.answers.SourceRow.{SourceRow};
 ghost use Rattle.entropy_source.specs.declared.answers.SourceRefusal.{SourceRefusal};
 ghost use Rattle.entropy_source.specs.declared.answers.SourceMode.TheVariants as modes;
 
+use sample_source::Samples;
+
 /// The state of a source, counted on all its acts since it was opened: the samples taken are those that all reads gave, blocks
 /// and alarms are the acts of that kind, the samples to come are those behind the ones given, the mode is that of the last of
-/// Began, Started and Alarmed, and what the tests keep is counted on the samples since the last Began.
+/// Began, Started and Alarmed, what the tests keep is counted on the samples since the last Began, and is nothing where there
+/// is an alarm since, and the faults are those that the last read counted.
 pub fn states_are_counted()
     ensures taken { (row : SourceRow) (told : Option (List ℕ)) (faults : ℕ) (acts : List SourceAct) →
         (source_after_all row (opened_source told faults) acts).taken ≡ length (samples_of acts) }
@@ -31,6 +35,10 @@ pub fn states_are_counted()
         (source_after_all row (opened_source told faults) acts).mode ≡ mode_after modes.Idle acts }
     ensures tail { (row : SourceRow) (told : Option (List ℕ)) (faults : ℕ) (acts : List SourceAct) → alarmed_after false acts ≡ false →
         (source_after_all row (opened_source told faults) acts).tail ≡ Some (tail_of row.cutoffs.window (tested_after [] acts)) }
+    ensures no_tail { (row : SourceRow) (told : Option (List ℕ)) (faults : ℕ) (acts : List SourceAct) → alarmed_after false acts ≡ true →
+        (source_after_all row (opened_source told faults) acts).tail ≡ None }
+    ensures faults { (row : SourceRow) (told : Option (List ℕ)) (faults : ℕ) (acts : List SourceAct) →
+        (source_after_all row (opened_source told faults) acts).faults ≡ faults_after faults acts }
 {}
 
 /// Which answer a start gives: HealthFailed exactly where there is an alarm among the samples that it read, at the first one,
@@ -58,6 +66,18 @@ pub fn draws_join()
         Draws row (found_in row.cutoffs (Some t)) (n + m) s [] [] (acts ++ more) (behind mid end) }
 {}
 
+/// Reads that lead from samples to samples, and others that lead on from there: together they lead from the first to the last.
+pub fn reads_join<S: Samples>()
+    ensures { (before mid after : S) (acts more : List SourceAct) → LeadBy S.reads S.faults before acts mid →
+        LeadBy S.reads S.faults mid more after → LeadBy S.reads S.faults before (acts ++ more) after }
+{}
+
+/// A draw that was refused while samples were read is refused by the same acts where more lengths are drawn.
+pub fn refused_draws_stay_refused()
+    ensures { (row : SourceRow) (found : List ℕ → List ℕ → Option Alarm) (s : SourceState) (xs ys : List ℕ) (acts : List SourceAct) (why : SourceRefusal) →
+        Drawn row found s xs acts (Err why) → Drawn row found s (xs ++ ys) acts (Err why) }
+{}
+
 /// A draw of blocks that was answered gives all bytes of its blocks, behind those given before.
 pub fn draws_give_whole_blocks()
     ensures { (row : SourceRow) (found : List ℕ → List ℕ → Option Alarm) (n : ℕ) (s : SourceState) (read : List ℕ) (out : List ℕ)
@@ -65,7 +85,7 @@ pub fn draws_give_whole_blocks()
 {}
 
 /// Draws of several lengths, one that was answered and another from the state that it left, are one draw of all the lengths, and
-/// each length gets of the bytes of both what it gets of its own draw's.
+/// each length gets of the bytes of both what it gets of its own draw's. They take as many samples as both.
 pub fn portions_join()
     ensures drawn { (row : SourceRow) (t : Tail) (xs : List ℕ) (ys : List ℕ) (s : SourceState) (acts : List SourceAct) (mid : List ℕ)
         (more : List SourceAct) (end : Result (List ℕ) SourceRefusal) → s.tail ≡ Some t →
@@ -75,4 +95,5 @@ pub fn portions_join()
     ensures portions { (row : SourceRow) (xs : List ℕ) (ys : List ℕ) (bs : List ℕ) (cs : List ℕ) →
         length bs ≡ sum (map (λ n. blocks_for row n) xs) * block_len row.cond →
         portions row (xs ++ ys) (bs ++ cs) ≡ portions row xs bs ++ portions row ys cs }
+    ensures need { (row : SourceRow) (xs ys : List ℕ) → need_of row (xs ++ ys) ≡ need_of row xs + need_of row ys }
 {}

@@ -5,7 +5,7 @@
 //! - `intake`: samples that are read, tested and counted, and the samples of a start-up;
 //! - `blocks`: conditioned blocks, and bytes filled with them;
 //! - `source`: the source with its calls;
-//! - `laws`: what is counted on all acts of a source, which answer comes, two draws as one,
+//! - `laws`: what is counted on all acts of a source, which answer comes, two draws as one, their reads,
 //!   and what each length gets of them.
 #![tactic(auto)]
 
@@ -19,7 +19,7 @@ mod tests;
 
 pub use answers::{Cause, Range, SourceMode, SourceRefusal, SourceRow};
 pub use laws::{
-    draws_end_by_their_reads, draws_give_whole_blocks, draws_join, portions_join,
-    starts_end_by_their_reads, states_are_counted,
+    draws_end_by_their_reads, draws_give_whole_blocks, draws_join, portions_join, reads_join,
+    refused_draws_stay_refused, starts_end_by_their_reads, states_are_counted,
 };
 pub use source::EntropySource;

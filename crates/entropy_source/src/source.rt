@@ -4,7 +4,7 @@ ghost use Rattle.rbg_bytes.specs.Streams.{Rose};
 ghost use Rattle.health_tests.specs.Numbers.{no_tail};
 ghost use Rattle.entropy_source.specs.Source.{need_of, need_of_block};
 ghost use Rattle.entropy_source.specs.Views.{opened_view, source_state, IsSource, HasStarted, HasDrawn, error_of};
-ghost use Rattle.entropy_source.specs.Causes.{IfSpent, IfInError, IfFault, IfHealthFailed, IfWant};
+ghost use Rattle.entropy_source.specs.Causes.{IfSpent, IfInError, IfFault, IfHealthFailed, IfWant, IsLetGo};
 
 use crate::answers::{Range, SourceMode, SourceRefusal, SourceRow};
 use crate::intake::Intake;
@@ -48,8 +48,9 @@ impl<S: Samples> EntropySource<S> {
     }
 
     /// Starts the source, also where it runs or is in error (SP 800-90B 4.3): the tests begin anew, and the samples of the
-    /// start-up are read, tested and thrown away. It then runs; where it is refused otherwise than by an alarm, it is idle.
-    /// Where more than 2^60 samples would be taken, nothing changes.
+    /// start-up are read, as many at once as are lacking and at most 4,096, tested and thrown away. It is passed, and the source
+    /// runs, exactly where no read failed, the samples did not end and none of them is an alarm; where it is refused otherwise
+    /// than by an alarm, it is idle. Where more than 2^60 samples would be taken, nothing changes.
     pub fn start(&mut self) -> Result<(), SourceRefusal>
         ensures spent { 2 ^ 60 < self.old.taken + self.old.row.startup →
             (result ≡ Err (SourceRefusal.SourceSpent self.old.taken self.old.row.startup)) × (self.new ≡ self.old) }
@@ -83,8 +84,9 @@ impl<S: Samples> EntropySource<S> {
     /// Fills `out`, at most 4,096 bytes, with the first bytes of conditioned blocks (SP 800-90B 3.1.5), each made of the next
     /// samples, and gives the places of these samples. The rest of the last block is let go. Of no bytes it does nothing.
     /// Otherwise it is refused where more than 2^60 samples would be taken, and then where the source isn't running, and
-    /// nothing changes. Where a refusal comes while samples are read, those taken enter no later block; after an alarm the
-    /// source is in error until its next start, and else it still runs. What `out` holds then is to be let go.
+    /// nothing changes. Where a refusal comes while samples are read, those taken enter no later block, and `out` holds zeros;
+    /// after an alarm no more is read, and the source is in error until its next start, and else it still runs. A read asks for
+    /// as many samples as the present block lacks, at most 4,096.
     pub fn draw(&mut self, out: &mut [u8]) -> Result<Range, SourceRefusal>
         requires { length out.old ≤ 4096 }
         ensures none { length out.old ≡ 0 → (result ≡ Ok (record { from = self.old.taken; to = self.old.taken })) × (self.new ≡ self.old) }
@@ -96,6 +98,7 @@ impl<S: Samples> EntropySource<S> {
         ensures acts { 0 < length out.old → self.old.taken + need_of self.old.row (length out.old ∷ []) ≤ 2 ^ 60 →
             self.old.mode ≡ SourceMode.Running → HasDrawn S.told S.faults S.reads (length out.old) out.new result self.old self.new }
         ensures row { self.new.row ≡ self.old.row }
+        ensures out { IfErr result (λ why. IsLetGo why out.old out.new) }
 
         // What is so after each answer, and with it the cause of each refusal.
         ensures drawn { OnOk result ((self.new.mode ≡ self.old.mode) × (self.new.taken ≡ self.old.taken + need_of self.old.row (length out.old ∷ []))

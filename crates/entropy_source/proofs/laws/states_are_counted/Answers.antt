@@ -1,7 +1,7 @@
 use Rattle.std.proofs.Common.{◌∙◌, length, zero-add}
 use Rattle.entropy_source.specs.Source.{opened_source}
 use Rattle.entropy_source.specs.Counted.{samples_of, blocks_of, alarms_of}
-use Rattle.entropy_source.proofs.Counts.{taken_of, blocks_in, alarms_in, told_in, mode_in, tail_quiet}
+use Rattle.entropy_source.proofs.Counts.{taken_of, blocks_in, alarms_in, told_in, mode_in, tail_quiet, tail_alarmed, faults_in}
 use Rattle.entropy_source.proofs.laws.states_are_counted.Goals as goal
 
 pub returns-clause-taken : goal.returns-clause-taken
@@ -21,3 +21,9 @@ returns-clause-mode c row told faults acts = mode_in row (opened_source told fau
 
 pub returns-clause-tail : goal.returns-clause-tail
 returns-clause-tail c row told faults acts none = tail_quiet row told faults acts none
+
+pub returns-clause-no_tail : goal.returns-clause-no_tail
+returns-clause-no_tail c row told faults acts some = tail_alarmed row told faults acts some
+
+pub returns-clause-faults : goal.returns-clause-faults
+returns-clause-faults c row told faults acts = faults_in row (opened_source told faults) acts

@@ -1,4 +1,3 @@
-use Rattle.entropy_source.specs.Views.{source_state}
 use Rattle.entropy_source.proofs.Conditioning.{one_block, one_stop, made_len}
 use Rattle.entropy_source.proofs.intake.Intake.block.Goals as goal
 

@@ -1,6 +1,6 @@
 use Rattle.std.proofs.Common.{◌+◌, ◌-◌, take, refl, ap, ◌∙◌, arith}
 use Rattle.entropy_source.specs.Source.{need_of_block}
-use Rattle.entropy_source.specs.Views.{SourceView, source_state}
+use Rattle.entropy_source.specs.Views.{SourceView}
 use Rattle.entropy_source.proofs.Joining.{still_tested}
 use Rattle.entropy_source.proofs.Conditioning.{held_none, held_more, held_stops}
 use Rattle.entropy_source.proofs.intake.Intake.condition.Goals as goal

@@ -1,7 +1,6 @@
 use Rattle.std.proofs.Common.{◌≡◌, ◌+◌}
 use Rattle.std.specs.Prelude.{IsSome}
 use Rattle.entropy_source.specs.Source.{need_of_block}
-use Rattle.entropy_source.specs.Views.{source_state}
 use Rattle.entropy_source.proofs.Conditioning.{Held}
 use Rattle.entropy_source.proofs.intake.Intake.condition.Given as goal
 

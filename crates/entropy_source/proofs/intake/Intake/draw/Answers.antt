@@ -1,5 +1,4 @@
 use Rattle.std.proofs.Common.{length}
-use Rattle.entropy_source.specs.Views.{source_state}
 use Rattle.entropy_source.proofs.Ends.{drawn, not_drawn}
 use Rattle.entropy_source.proofs.intake.Intake.draw.Goals as goal
 
@@ -16,9 +15,9 @@ returns-in-Ok-clause-ends g c =
 pub returns-in-Err-clause-acts : goal.returns-in-Err-clause-acts
 returns-in-Err-clause-acts g c =
     (not_drawn g.S.Samples.told g.S.Samples.faults g.S.Samples.reads _ c.args.self.now c.fill.new.self c.requires.tested
-    c.fill.new.out c.in-Err.why c.in-Err.ensures.fills).0
+    _ c.in-Err.why c.in-Err.ensures.fills).0
 
 pub returns-in-Err-clause-ends : goal.returns-in-Err-clause-ends
 returns-in-Err-clause-ends g c =
     (not_drawn g.S.Samples.told g.S.Samples.faults g.S.Samples.reads (length c.args.out.now) c.args.self.now c.fill.new.self c.requires.tested
-    c.fill.new.out c.in-Err.why c.in-Err.ensures.fills).1
+    c.args.out.now c.in-Err.why c.in-Err.ensures.fills).1

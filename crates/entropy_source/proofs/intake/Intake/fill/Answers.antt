@@ -5,7 +5,7 @@ use Rattle.rbg_bytes.specs.declared.cond.Cond.{Cond}
 use Rattle.conditioner.specs.Conditioned.{block_len}
 use Rattle.entropy_source.specs.declared.answers.SourceRow.{SourceRow}
 use Rattle.entropy_source.specs.Source.{need_of_block}
-use Rattle.entropy_source.specs.Views.{SourceView, source_state}
+use Rattle.entropy_source.specs.Views.{SourceView}
 use Rattle.entropy_source.specs.Scaffolding.{StopsBlocks}
 use Rattle.entropy_source.proofs.Filling.{filled_none, filled_more, filled_stops, within}
 use Rattle.entropy_source.proofs.intake.Intake.fill.Goals as goal
@@ -60,8 +60,8 @@ loop-i-preserved g c =
       taken = omega (arith, e.taken, same, one, c.loop-i.invariant.taken);
       filled = filled_more g.S.Samples.told g.S.Samples.faults g.S.Samples.reads c.args.self.now.row c.args.self.now c.div_ceil-blocks.result c.block_len-len.result
           c.loop-i.self c.block.new.self c.loop-i.self.row c.loop-i.invariant.row
-          c.loop-i.i c.loop-i-test.true c.loop-i.out c.put_block.new.out c.in-Ok.block c.loop-i.invariant.filled e.makes (e.len ∙ len)
-          (omega (arith, at, c.loop-i.auto.out)) c.put_block.auto.out
-          (subst (λ b. take (c.loop-i.i * c.block_len-len.result + length b) c.put_block.new.out
-          ≡ take (c.loop-i.i * c.block_len-len.result) c.loop-i.out ++ take (length c.loop-i.out - c.loop-i.i * c.block_len-len.result) b) c.as_slice.ensures.bytes c.put_block.ensures);
+          c.loop-i.i c.loop-i-test.true c.loop-i.out c.put_fitting.new.out c.in-Ok.block c.loop-i.invariant.filled e.makes (e.len ∙ len)
+          (omega (arith, at, c.loop-i.auto.out)) c.put_fitting.auto.out
+          (subst (λ b. take (c.loop-i.i * c.block_len-len.result + length b) c.put_fitting.new.out
+          ≡ take (c.loop-i.i * c.block_len-len.result) c.loop-i.out ++ take (length c.loop-i.out - c.loop-i.i * c.block_len-len.result) b) c.as_slice.ensures.bytes c.put_fitting.ensures.front);
     }

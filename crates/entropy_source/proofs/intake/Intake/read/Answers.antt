@@ -1,5 +1,5 @@
-use Rattle.std.proofs.Common.{◌≡◌, ◌≤◌, ◌+◌, ℕ, List, [], ◌++◌, length, min, take, drop, refl, sym, ap, ◌∙◌, subst, arith}
-use Rattle.std.specs.Prelude.{Option, Some, None}
+use Rattle.std.proofs.Common.{◌≡◌, ◌≤◌, ℕ, List, [], ◌++◌, length, take, drop, refl, sym, ap, ◌∙◌, subst, arith}
+use Rattle.std.specs.Prelude.{Option, Some}
 use Rattle.std.proofs.lemmas.List.{take-append-le, length-take-le}
 use Rattle.std.specs.Io.KnownBytes.{Consumes}
 use Rattle.entropy_source.specs.declared.answers.SourceRefusal.TheVariants.{SourceFault, WantOfEntropy}
@@ -8,7 +8,7 @@ use Rattle.entropy_source.proofs.Reading.{failed, ended, moved, quiet_read, alar
 use Rattle.entropy_source.proofs.intake.Intake.read.Goals as goal
 
 -- the piece of the buffer that is read to
-as_asked : (lacks asked : ℕ) (buffer : List ℕ) → asked ≡ min lacks 4096 → length buffer ≡ 4096 → length (take asked buffer) ≡ asks lacks
+as_asked : (lacks asked : ℕ) (buffer : List ℕ) → asked ≡ asks lacks → length buffer ≡ 4096 → length (take asked buffer) ≡ asks lacks
 as_asked lacks asked buffer is size = let fits : asked ≤ length buffer = omega (arith, is) in omega (arith, length-take-le asked buffer fits, is)
 
 -- a read that asked for so many samples and gave these
@@ -20,7 +20,7 @@ pub returns-in-Err-clause-comes : goal.returns-in-Err-clause-comes
 returns-in-Err-clause-comes g c =
     let e = c.in-Err.ensures in
     let now = c.read.new.self in
-    let size = as_asked c.args.lacks c.min-asked.result c.args.buffer.now c.min-asked.ensures c.requires.buffer in
+    let size = as_asked c.args.lacks c.min-asked.result c.args.buffer.now (omega arith) c.requires.buffer in
     let one = made_so g.S.Samples.reads c.self.inside.samples now size refl e.made in
     moved g.S.Samples.told g.S.Samples.faults g.S.Samples.reads _ _ c.self.view_is _ c.args.lacks (SourceFault c.fault_count.result)
     (failed g.S.Samples.told g.S.Samples.faults g.S.Samples.reads _ now c.args.lacks c.requires.lacking e.untold c.fault_count.result c.fault_count.ensures e.samples e.cause.failed one)
@@ -30,7 +30,7 @@ returns-then-count-eq0-clause-comes g c =
     let e = c.in-Ok.ensures in
     let now = c.read.new.self in
     let buf = c.read.new.buf in
-    let size = as_asked c.args.lacks c.min-asked.result c.args.buffer.now c.min-asked.ensures c.requires.buffer in
+    let size = as_asked c.args.lacks c.min-asked.result c.args.buffer.now (omega arith) c.requires.buffer in
     let none : take c.in-Ok.count buf ≡ [] = rw (c.if-count-eq0.true) refl in
     let one = made_so g.S.Samples.reads c.self.inside.samples now size (ap Some none) e.made in
     moved g.S.Samples.told g.S.Samples.faults g.S.Samples.reads _ _ c.self.view_is _ c.args.lacks (WantOfEntropy c.args.lacks)
@@ -44,7 +44,7 @@ returns-in-None-clause-comes g c =
     let e = c.in-Ok.ensures in
     let now = c.read.new.self in
     let buf = c.read.new.buf in
-    let size = as_asked c.args.lacks c.min-asked.result c.args.buffer.now c.min-asked.ensures c.requires.buffer in
+    let size = as_asked c.args.lacks c.min-asked.result c.args.buffer.now (omega arith) c.requires.buffer in
     let same = sym (take-append-le c.in-Ok.count buf (drop c.min-asked.result c.args.buffer.now) e.bound.0) in
     let one = made_so g.S.Samples.reads i.samples now size (ap Some same) e.made in
     quiet_read g.S.Samples.told g.S.Samples.faults g.S.Samples.reads i.row i.samples now i.tests c.step_all.new.self i.taken i.blocks i.alarms i.mode c.args.self.now
@@ -57,7 +57,7 @@ returns-in-Some-clause-comes g c =
     let e = c.in-Ok.ensures in
     let now = c.read.new.self in
     let buf = c.read.new.buf in
-    let size = as_asked c.args.lacks c.min-asked.result c.args.buffer.now c.min-asked.ensures c.requires.buffer in
+    let size = as_asked c.args.lacks c.min-asked.result c.args.buffer.now (omega arith) c.requires.buffer in
     let same = sym (take-append-le c.in-Ok.count buf (drop c.min-asked.result c.args.buffer.now) e.bound.0) in
     let one = made_so g.S.Samples.reads i.samples now size (ap Some same) e.made in
     alarm_read g.S.Samples.told g.S.Samples.faults g.S.Samples.reads i.row i.samples now i.tests c.step_all.new.self i.taken i.blocks i.alarms i.mode c.args.self.now

@@ -1,5 +1,5 @@
 use Rattle.std.proofs.Common.{◌-◌, take, refl, ap, ◌∙◌, arith}
-use Rattle.entropy_source.specs.Views.{SourceView, source_state}
+use Rattle.entropy_source.specs.Views.{SourceView}
 use Rattle.entropy_source.proofs.Joining.{left_none, left_more, left_stops, still_tested}
 use Rattle.entropy_source.proofs.intake.Intake.warm_up.Goals as goal
 

@@ -1,6 +1,5 @@
 use Rattle.std.proofs.Common.{◌≡◌, ◌≤◌, ◌+◌, ◌^◌}
 use Rattle.std.specs.Prelude.{IsSome}
-use Rattle.entropy_source.specs.Views.{source_state}
 use Rattle.entropy_source.proofs.Joining.{Left}
 use Rattle.entropy_source.proofs.intake.Intake.warm_up.Given as goal
 

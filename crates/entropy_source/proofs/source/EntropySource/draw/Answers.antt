@@ -1,6 +1,6 @@
 use Rattle.std.proofs.Common.{length, sym, ap, ◌∙◌, subst}
 use Rattle.entropy_source.specs.Views.{SourceView, source_state, HasDrawn, error_of}
-use Rattle.entropy_source.proofs.Ends.{draw_facts}
+use Rattle.entropy_source.proofs.Ends.{draw_facts, let_go}
 use Rattle.entropy_source.proofs.source.EntropySource.draw.Goals as goal
 
 pub returns-clause-acts : goal.returns-clause-acts
@@ -36,3 +36,8 @@ pub returns-clause-want : goal.returns-clause-want
 returns-clause-want g c =
     (draw_facts g.S.Samples.told g.S.Samples.faults c.self.inside.intake c.args.self.now c.self.view_is (source_state g.S.Samples.told g.S.Samples.faults c.draw.new.self) c.draw.result _ (λ _ _. Unit {0}) (λ _. Unit {0})
     (ap error_of (sym c.mode.ensures.mode) ∙ (sym c.cause.ensures ∙ c.in_default.is)) c.draw.ensures.ends).want
+
+pub returns-clause-out : goal.returns-clause-out
+returns-clause-out g c =
+    let_go c.self.inside.intake.row (length c.args.out.now) (source_state g.S.Samples.told g.S.Samples.faults c.self.inside.intake)
+    (source_state g.S.Samples.told g.S.Samples.faults c.draw.new.self) c.draw.result c.args.out.now c.draw.new.out c.draw.ensures.ends c.draw.ensures.wiped
