@@ -5,7 +5,7 @@ use Rattle.std.proofs.lemmas.List.{drop_all}
 use Rattle.std.specs.Prelude.{string_bytes, Vec, String, Option}
 use Rattle.std.specs.declared.alloc.Global.{Global}
 use Rattle.rbgtree.specs.Files.{Entries, IsFile, IsMissing}
-use Rattle.rbgtree.specs.Recordings.{TakesOut}
+use Rattle.rbgtree.specs.Recordings.{TakesOut, recording_of}
 use Rattle.rbgtree.specs.MemoryFiles.{named, labelled, recorded, names, IsFirstAt, IsNoName, AreMissing}
 
 -- what the later names have of this name, all have so many places further on; and what they lack, all lack
@@ -83,13 +83,13 @@ taken_at {S} (e ∷ es) (suc i) d name (other, h) =
     ap (λ (n : ℕ). labelled (take (suc i) (e ∷ es) ++ drop n (e ∷ es))) next in
     inr (other, (labelled (take i es ++ drop (i + 1) es), left, taken_at es i d name h))
 
--- where samples are taken out, what they tell is
-pub told_out : {S : Type 0} (told : S → Option (List ℕ)) (es : List (List ℕ × S)) (name : List ℕ) (s : S) (rest : List (List ℕ × S)) → TakesOut es name s rest →
-    TakesOut (recorded told es) name (told s) (recorded told rest)
-told_out told [] name s rest h = absurd h
-told_out told (e ∷ es) name s rest (inl (same, is, left)) = inl (same, ap told is, ap (recorded told) left)
-told_out told (e ∷ es) name s rest (inr (other, (later, left, h))) =
-    inr (other, (recorded told later, ap (recorded told) left, told_out told es name s later h))
+-- where samples are taken out, their recording is
+pub told_out : {S : Type 0} (told : S → Option (List ℕ)) (faults : S → ℕ) (es : List (List ℕ × S)) (name : List ℕ) (s : S) (rest : List (List ℕ × S)) → TakesOut es name s rest →
+    TakesOut (recorded told faults es) name (recording_of told faults s) (recorded told faults rest)
+told_out told faults [] name s rest h = absurd h
+told_out told faults (e ∷ es) name s rest (inl (same, is, left)) = inl (same, ap (recording_of told faults) is, ap (recorded told faults) left)
+told_out told faults (e ∷ es) name s rest (inr (other, (later, left, h))) =
+    inr (other, (recorded told faults later, ap (recorded told faults) left, told_out told faults es name s later h))
 
 -- samples that are there are not missing
 pub samples-not-missing : {S : Type 0} (es : List (List ℕ × S)) (name : List ℕ) (s : S) (rest : List (List ℕ × S)) → TakesOut es name s rest → AreMissing es name → ⊥

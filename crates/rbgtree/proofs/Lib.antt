@@ -11,3 +11,5 @@ pub mod Tries
 pub mod Depths
 pub mod Openings
 pub mod Plans
+pub mod Complete
+pub mod Answered

@@ -6,6 +6,7 @@ use Rattle.std.proofs.lemmas.Bool.{cases_lt}
 use Rattle.std.proofs.lemmas.Option.{slice_get_past, slice_get-get_or}
 use Rattle.std.proofs.lemmas.List.{get_or-set_same, get_or-set_other, get_or-take, length-take}
 use Rattle.tree_config.specs.declared.plan.SourcePlan.{SourcePlan}
+use Rattle.entropy_source.specs.Views.{SourceView}
 use Rattle.rbgtree.specs.Check.{IsTried, AreTriedUpTo, AreTried}
 use Rattle.rbgtree.specs.declared.printed.SourceLine.{SourceLine}
 
@@ -56,9 +57,13 @@ set_else lines j i line other = elim (cases_lt j (length lines)) [
       slice_get_past (set lines i line) j beyond ∙ sym (slice_get_past lines j past)
 ]
 
+-- a start of a source, whatever the source is like afterwards
+abbrev pub Tried : {S : Type 0} → (S → Option (List ℕ)) → (S → ℕ) → ℕ → SourcePlan → S → SourceLine → Type 0
+Tried {S} told faults i plan samples line = (after : SourceView S) × IsTried told faults i plan samples after line
+
 -- one source more
 pub tried_more : {S : Type 0} (told : S → Option (List ℕ)) (faults : S → ℕ) (plans : List SourcePlan) (opened : List S) (lines : List SourceLine) (i : ℕ) (plan : SourcePlan) (samples : S) (rest : List S) (line : SourceLine)
-    → AreTriedUpTo told faults i plans opened lines → slice_get plans i ≡ Some plan → drop i opened ≡ samples ∷ rest → i < length lines → IsTried told faults i plan samples line
+    → AreTriedUpTo told faults i plans opened lines → slice_get plans i ≡ Some plan → drop i opened ≡ samples ∷ rest → i < length lines → Tried told faults i plan samples line
     → AreTriedUpTo told faults (i + 1) plans opened (set lines i line)
 tried_more {S} told faults plans opened lines i plan samples rest line before plan_is samples_are within tried j p x l less p_is x_is l_is = elim (cases_lt j i) [
   | inl earlier ↦
@@ -69,8 +74,8 @@ tried_more {S} told faults plans opened lines i plan samples rest line before pl
       let plan_same : plan ≡ p = same plan p (sym plan_is ∙ (ap (λ (n : ℕ). slice_get plans n) here ∙ p_is)) in
       let samples_same : samples ≡ x = same samples x (sym (at_drop opened i samples rest samples_are) ∙ (ap (λ (n : ℕ). slice_get opened n) here ∙ x_is)) in
       let line_same : line ≡ l = same line l (sym (set_here lines i line within) ∙ (ap (λ (n : ℕ). slice_get (set lines i line) n) here ∙ l_is)) in
-      subst (λ (n : ℕ). IsTried told faults n p x l) here (subst (λ (y : SourceLine). IsTried told faults i p x y) line_same
-      (subst (λ (s : S). IsTried told faults i p s line) samples_same (subst (λ (q : SourcePlan). IsTried told faults i q samples line) plan_same tried)))
+      subst (λ (n : ℕ). Tried told faults n p x l) here (subst (λ (y : SourceLine). Tried told faults i p x y) line_same
+      (subst (λ (s : S). Tried told faults i p s line) samples_same (subst (λ (q : SourcePlan). Tried told faults i q samples line) plan_same tried)))
 ]
 
 taken_at : (lines : List SourceLine) (n j : ℕ) (line : SourceLine) → n ≤ length lines → j < n → slice_get (take n lines) j ≡ Some line → slice_get lines j ≡ Some line

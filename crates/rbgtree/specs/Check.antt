@@ -1,6 +1,6 @@
 -- What `check` does: the plan of a configuration, the samples of each source, one start of each, and what is printed of them.
 -- SP 800-90B 4.3 for a start; else this project's own.
-use Rattle.std.specs.Prelude.{◌≡◌, ◌<◌, ℕ, ◌==◌, if◌then◌else◌, List, [], ◌∷◌, ◌++◌, length, map, flat_map, slice_get, Option, Some, None, Result, Ok, Err}
+use Rattle.std.specs.Prelude.{◌≡◌, ◌≤◌, ◌<◌, ℕ, ◌==◌, if◌then◌else◌, List, [], ◌∷◌, ◌++◌, length, take, map, flat_map, slice_get, Option, Some, None, Result, Ok, Err}
 use Rattle.std.specs.Io.KnownBytes.{Appends}
 use Rattle.rbg_bytes.specs.Streams.{Rose, AppendsFront}
 use Rattle.entropy_source.specs.Source.{opened_source}
@@ -10,25 +10,39 @@ use Rattle.entropy_source.specs.declared.answers.SourceRefusal.{SourceRefusal}
 use Rattle.tree_config.specs.Tree.{Tree, Plan}
 use Rattle.tree_config.specs.declared.plan.SourcePlan.{SourcePlan}
 use Rattle.rbgtree.specs.Files.{Entries, IsWholeFile}
-use Rattle.rbgtree.specs.Recordings.{Recordings, TakesOut}
+use Rattle.rbgtree.specs.Recordings.{Recording, Recordings, recording_of, TakesOut}
 use Rattle.rbgtree.specs.Printed.{source_line, source_text, node_lines}
 use Rattle.rbgtree.specs.declared.check.NotOpened.{NotOpened}
-use Rattle.rbgtree.specs.declared.check.NotOpened.TheVariants.{Fault}
+use Rattle.rbgtree.specs.declared.check.NotOpened.TheVariants.{Fault, OutOfMemory}
 use Rattle.rbgtree.specs.declared.printed.SourceLine.{SourceLine}
 use Rattle.rbgtree.specs.declared.status.Status.{Status}
 use Rattle.rbgtree.specs.declared.status.Status.TheVariants.{Done, Config, Memory, WriteFault, OpenFault, SourceRefused}
 
--- where the recordings are told, the samples of that name were opened, and told what is to come
-abbrev pub OpensOne : Option Recordings → Option Recordings → List ℕ → Option (List ℕ) → Type 0
-OpensOne None now name told = now ≡ None
-OpensOne (Some before) now name told = (rest : Recordings) × (now ≡ Some rest) × TakesOut before name told rest
+-- where the recordings are told, that of the name was opened, and is gone
+abbrev pub OpensOne : Option Recordings → Option Recordings → List ℕ → Recording → Type 0
+OpensOne None now name opened = now ≡ None
+OpensOne (Some before) now name opened = (rest : Recordings) × (now ≡ Some rest) × TakesOut before name opened rest
 
--- the samples of these names were opened one after another
-abbrev pub OpensAll : Option Recordings → Option Recordings → List (List ℕ) → List (Option (List ℕ)) → Type 0
+-- the recordings of these names were opened one after another
+abbrev pub OpensAll : Option Recordings → Option Recordings → List (List ℕ) → List Recording → Type 0
 OpensAll before now [] [] = now ≡ before
-OpensAll before now (name ∷ names) (told ∷ more) =
-    (between : Option Recordings) × OpensOne before between name told × OpensAll between now names more
+OpensAll before now (name ∷ names) (opened ∷ more) =
+    (between : Option Recordings) × OpensOne before between name opened × OpensAll between now names more
 OpensAll before now _ _ = ⊥
+
+-- the names of a plan's samples, source by source
+abbrev pub sample_names : List SourcePlan → List (List ℕ)
+sample_names sources = map (λ (source : SourcePlan). source.samples) sources
+
+-- the samples of the first sources were opened, and no others
+pub record OpensFirst {S : Type 0} (told : S → Option (List ℕ)) (faults : S → ℕ) (sources : List SourcePlan) (before now : Option Recordings) (opened : List S) : Type 0 where
+  pub few : length opened ≤ length sources
+  pub opens : OpensAll before now (take (length opened) (sample_names sources)) (map (recording_of told faults) opened)
+
+-- Samples were not all opened: those of the next source could not be, and those before it were; or, for want of memory, none were.
+abbrev pub HasNotOpened : {S : Type 0} → (S → Option (List ℕ)) → (S → ℕ) → List SourcePlan → Option Recordings → Option Recordings → NotOpened → Type 0
+HasNotOpened {S} told faults sources before now Fault = (opened : List S) × (length opened < length sources) × OpensFirst told faults sources before now opened
+HasNotOpened told faults sources before now OutOfMemory = now ≡ before
 
 -- the world's count rose where samples could not be opened, and is as it was otherwise
 abbrev pub HasOpenCause : {T : Type 0} → ℕ → ℕ → Result T NotOpened → Type 0
@@ -39,19 +53,18 @@ HasOpenCause before now result = now ≡ before
 abbrev pub row_of : SourcePlan → SourceRow
 row_of plan = record { num = plan.num; den = plan.den; cutoffs = plan.cutoffs; startup = plan.startup; cond = plan.cond }
 
--- One start of source j, over these samples, and what is printed of it. The state of the source after that start, and with it the
--- count of faults of its samples, is that after the acts of the start. What is read of the samples later is not said.
-pub record IsTried {S : Type 0} (told : S → Option (List ℕ)) (faults : S → ℕ) (j : ℕ) (plan : SourcePlan) (samples : S) (line : SourceLine) : Type 0 where
-  pub after : SourceView S
+-- One start of source j, over these samples, and what is printed of it. The source, and with it the count of faults of its samples,
+-- is then as the acts of the start leave it.
+pub record IsTried {S : Type 0} (told : S → Option (List ℕ)) (faults : S → ℕ) (j : ℕ) (plan : SourcePlan) (samples : S) (after : SourceView S) (line : SourceLine) : Type 0 where
   pub result : Result (Unit {0}) SourceRefusal
   pub started : HasStarted (row_of plan) result (opened_source (told samples) (faults samples)) (source_state told faults after)
   pub printed : line ≡ source_line j plan after.taken result
 
--- one start of each of the first n sources
+-- One start of each of the first n sources. What is read of the samples later is not said.
 abbrev pub AreTriedUpTo : {S : Type 0} → (S → Option (List ℕ)) → (S → ℕ) → ℕ → List SourcePlan → List S → List SourceLine → Type 0
 AreTriedUpTo {S} told faults n plans opened lines =
     (j : ℕ) (plan : SourcePlan) (samples : S) (line : SourceLine) → j < n
-    → slice_get plans j ≡ Some plan → slice_get opened j ≡ Some samples → slice_get lines j ≡ Some line → IsTried told faults j plan samples line
+    → slice_get plans j ≡ Some plan → slice_get opened j ≡ Some samples → slice_get lines j ≡ Some line → (after : SourceView S) × IsTried told faults j plan samples after line
 
 -- one start of each source
 pub record AreTried {S : Type 0} (told : S → Option (List ℕ)) (faults : S → ℕ) (plans : List SourcePlan) (opened : List S) (lines : List SourceLine) : Type 0 where
@@ -83,14 +96,14 @@ HasNoPlan files name status = ⊥
 -- the samples of a plan's sources were opened, and there is one start of each source
 pub record HasTried {S : Type 0} (told : S → Option (List ℕ)) (faults : S → ℕ) (tree : Tree) (before now : Option Recordings) (lines : List SourceLine) : Type 0 where
   pub opened : List S
-  pub opens : OpensAll before now (map (λ (source : SourcePlan). source.samples) tree.sources) (map told opened)
+  pub opens : OpensAll before now (sample_names tree.sources) (map (recording_of told faults) opened)
   pub tried : AreTried told faults tree.sources opened lines
 
--- what became of a plan, by the status: nothing is printed where samples could not be opened; after a failed write a front of
--- the lines is
+-- what became of a plan, by the status: where samples could not be opened, those of the sources before are gone, and nothing is
+-- printed; after a failed write a front of the lines is
 abbrev pub HasChecked : {S : Type 0} → (S → Option (List ℕ)) → (S → ℕ) → Tree → Option Recordings → Option Recordings → Option (List ℕ) → Option (List ℕ) → Status → Type 0
-HasChecked told faults tree before now out_before out_now Memory = out_now ≡ out_before
-HasChecked told faults tree before now out_before out_now (OpenFault count) = out_now ≡ out_before
+HasChecked told faults tree before now out_before out_now Memory = HasNotOpened told faults tree.sources before now OutOfMemory × (out_now ≡ out_before)
+HasChecked told faults tree before now out_before out_now (OpenFault count) = HasNotOpened told faults tree.sources before now Fault × (out_now ≡ out_before)
 HasChecked told faults tree before now out_before out_now Done =
     (lines : List SourceLine) × HasTried told faults tree before now lines × (first_refused lines ≡ None) × Appends out_before out_now (printed tree lines)
 HasChecked told faults tree before now out_before out_now (SourceRefused source) =

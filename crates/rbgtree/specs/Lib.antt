@@ -9,3 +9,4 @@ pub mod Printed
 pub mod Check
 pub mod Commands
 pub mod Run
+pub mod Complete

@@ -5,7 +5,7 @@ use Rattle.std.specs.declared.option.Option.{Option}
 use Rattle.std.specs.declared.alloc.Global.{Global}
 use Rattle.rbg_bytes.specs.Streams.{one_more}
 use Rattle.rbgtree.specs.Files.{Entries}
-use Rattle.rbgtree.specs.Recordings.{Recordings}
+use Rattle.rbgtree.specs.Recordings.{Recordings, recording_of}
 
 -- the files, the samples, the calls that fail, the calls so far and the faults so far
 pub record Shelf (S : Type 0) : Type 0 where
@@ -23,9 +23,9 @@ named files = map (λ file. (string_bytes file.0, file.1.items)) files
 abbrev pub labelled : {S : Type 0} → List (String Global × S) → List (List ℕ × S)
 labelled samples = map (λ entry. (string_bytes entry.0, entry.1)) samples
 
--- what samples with their names tell
-abbrev pub recorded : {S : Type 0} → (S → Option (List ℕ)) → List (List ℕ × S) → Recordings
-recorded told samples = map (λ entry. (entry.0, told entry.1)) samples
+-- samples with their names, as recordings
+abbrev pub recorded : {S : Type 0} → (S → Option (List ℕ)) → (S → ℕ) → List (List ℕ × S) → Recordings
+recorded told faults samples = map (λ entry. (entry.0, recording_of told faults entry.1)) samples
 
 -- the names of entries
 abbrev pub names : {T : Type 0} → List (String Global × T) → List (List ℕ)

@@ -26,6 +26,19 @@ pub record Outside : Type 0 where
   pub input : ℕ
   pub output : ℕ
 
+-- the world, the input and the output at a moment
+abbrev pub outside_of : {W I O : Type 0} → (W → Option Entries) → (W → Option Recordings) → (W → ℕ) → (I → Option (List ℕ)) → (I → ℕ)
+    → (O → Option (List ℕ)) → (O → ℕ) → W → I → O → Outside
+outside_of files recordings world_faults left input_faults out output_faults world input output = record {
+  files = files world;
+  recordings = recordings world;
+  left = left input;
+  out = out output;
+  world = world_faults world;
+  input = input_faults input;
+  output = output_faults output;
+}
+
 -- nothing was read from the input, and nothing was written
 pub record IsUntouched (before now : Outside) : Type 0 where
   pub left : now.left ≡ before.left

@@ -1,13 +1,13 @@
 // What `check` does with a plan: the samples of its sources are opened, each source is started once, and a line is printed of
 // each source and of each node.
-ghost use Rattle.std.specs.Prelude.{◌≡◌, ◌≤◌, ◌<◌, [], length, take, map, IfOk, OnErr, Some, slice_get};
+ghost use Rattle.std.specs.Prelude.{◌≡◌, ◌≤◌, length, take, map, IfOk, IfErr};
 ghost use Rattle.rbg_bytes.specs.Streams.{HasCause, TakesAll};
 ghost use Rattle.tree_config.specs.Planned.{IsSource};
-ghost use Rattle.tree_config.specs.Tree.{parents};
-ghost use Rattle.tree_config.specs.Graph.{HasDepth};
-ghost use Rattle.tree_config.specs.declared.plan.SourcePlan.{SourcePlan};
-ghost use Rattle.rbgtree.specs.Check.{OpensAll, HasOpenCause, IsTried, AreTried, row_of, first_refused, printed};
-ghost use Rattle.rbgtree.specs.Printed.{test_number, error_answer, answer_of, line_of_node, node_lines};
+ghost use Rattle.health_tests.specs.Numbers.{no_tail};
+ghost use Rattle.entropy_source.specs.Views.{SourceView, opened_view};
+ghost use Rattle.rbgtree.specs.Recordings.{recording_of};
+ghost use Rattle.rbgtree.specs.Check.{sample_names, OpensAll, HasOpenCause, HasNotOpened, IsTried, AreTried, row_of, first_refused, printed};
+ghost use Rattle.rbgtree.specs.Printed.{test_number, error_answer, answer_of, node_lines};
 
 use crate::printed::{Answer, NodeLine, SourceLine, print_node, print_sources};
 use crate::world::World;
@@ -93,12 +93,16 @@ fn row_of(plan: &SourcePlan) -> SourceRow
     }
 }
 
-// Starts a source once, and says what is printed of it.
-fn try_source<S: Samples>(number: u8, plan: &SourcePlan, samples: S) -> SourceLine
-    requires { IsSource plan.now }
-    ensures { IsTried S.told S.faults number plan.now samples result }
+// Starts a source that was just opened once, and says what is printed of it.
+fn try_source<S: Samples>(
+    number: u8,
+    plan: &SourcePlan,
+    source: &mut EntropySource<S>,
+) -> SourceLine
+    requires range { IsSource plan.now }
+    requires opened { source.old ≡ opened_view (row_of plan.now) no_tail source.old.samples }
+    ensures { IsTried S.told S.faults number plan.now source.old.samples source.new result }
 {
-    let mut source = EntropySource::open(samples, row_of(plan));
     let answer = answer_of(number, source.start());
     SourceLine {
         number,
@@ -112,6 +116,15 @@ fn try_source<S: Samples>(number: u8, plan: &SourcePlan, samples: S) -> SourceLi
     }
 }
 
+// Opens a source over samples, and starts it once.
+fn try_samples<S: Samples>(number: u8, plan: &SourcePlan, samples: S) -> SourceLine
+    requires { IsSource plan.now }
+    ensures { (after : SourceView S) × IsTried S.told S.faults number plan.now samples after result }
+{
+    let mut source = EntropySource::open(samples, row_of(plan));
+    try_source(number, plan, &mut source)
+}
+
 /// Starts each source of the plan once, over these samples, and fills in the lines that are printed of them.
 pub fn try_all<S: Samples>(plan: &TreePlan, opened: Vec<S>, lines: &mut [SourceLine; MAX_SOURCES])
     requires samples { length opened.items ≡ length plan.now.sources }
@@ -120,31 +133,32 @@ pub fn try_all<S: Samples>(plan: &TreePlan, opened: Vec<S>, lines: &mut [SourceL
 {
     let mut number = 0u8;
     for samples in opened {
-        lines[usize::from(number)] = try_source(number, plan.source(number), samples);
+        lines[usize::from(number)] = try_samples(number, plan.source(number), samples);
         number += 1;
     }
 }
 
-/// Opens the samples of each source of the plan, in order.
+/// Opens the samples of each source of the plan, in order. All memory is taken before the first.
 pub fn open_all<W: World>(
     alloc: Global,
     world: &mut W,
     plan: &TreePlan,
 ) -> Result<Vec<W::Samples>, NotOpened>
-    ensures opened { IfOk result (λ opened. OpensAll (W.recordings world.old) (W.recordings world.new) (map (λ (s : SourcePlan). s.samples) plan.now.sources) (map W.Samples.told opened.items)) }
+    ensures opened { IfOk result (λ opened. OpensAll (W.recordings world.old) (W.recordings world.new) (sample_names plan.now.sources)
+        (map (recording_of W.Samples.told W.Samples.faults) opened.items)) }
     ensures count { IfOk result (λ opened. length opened.items ≡ length plan.now.sources) }
+    ensures some { IfErr result (HasNotOpened W.Samples.told W.Samples.faults plan.now.sources (W.recordings world.old) (W.recordings world.new)) }
     ensures files { W.files world.new ≡ W.files world.old }
     ensures cause { HasOpenCause (W.faults world.old) (W.faults world.new) result }
 {
-    let mut opened = Vec::new(alloc);
+    let Ok(mut opened) = Vec::with_capacity(alloc, usize::from(plan.sources())) else {
+        return Err(NotOpened::OutOfMemory);
+    };
     for number in 0..plan.sources() {
         let Ok(samples) = world.open_samples(plan.source(number).samples.as_str()) else {
             return Err(NotOpened::Fault);
         };
-        match opened.push(samples) {
-            Ok(()) => {}
-            Err(_) => return Err(NotOpened::OutOfMemory),
-        }
+        opened.push_reserved(samples);
     }
     Ok(opened)
 }

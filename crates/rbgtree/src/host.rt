@@ -1,6 +1,7 @@
 // The real files, noise sources, input and output. They count their faults and tell no content.
-ghost use Rattle.std.specs.Prelude.{None, ⊤};
+ghost use Rattle.std.specs.Prelude.{◌≡◌, None, Ok, IfOk, IfErr, IsErr, ⊤};
 ghost use Rattle.std.specs.Io.{ReadsAtMost};
+ghost use Rattle.rbg_bytes.specs.Streams.{HasCause};
 
 use crate::world::World;
 use rbg_bytes::{ByteSink, ByteSource, Failed};
@@ -9,6 +10,21 @@ use std::fs::{self, File};
 use std::io::{self, Read, Seek, SeekFrom, Write};
 use std::net::{Net, TcpStream};
 use std::rt::Files;
+
+// What the system answered, where a failure is counted.
+fn counted<T: Drop>(answer: io::Result<T>, faults: &mut u64) -> Result<T, Failed>
+    ensures value { IfOk result (λ value. answer ≡ Ok value) }
+    ensures failed { IfErr result (λ _. IsErr answer) }
+    ensures cause { HasCause faults.old faults.new result }
+{
+    match answer {
+        Ok(value) => Ok(value),
+        Err(_) => {
+            *faults = faults.saturating_add(1);
+            Err(Failed)
+        }
+    }
+}
 
 /// A source over any reader, as standard input.
 #[derive(Drop)]
@@ -30,13 +46,8 @@ impl<R: Read + Drop> ByteSource for Reading<R> {
     ghost faults = { λ s. s.faults };
 
     fn read(&mut self, buf: &mut [u8]) -> Result<usize, Failed> {
-        match self.inner.read(buf) {
-            Ok(count) => Ok(count),
-            Err(_) => {
-                self.faults = self.faults.saturating_add(1);
-                Err(Failed)
-            }
-        }
+        let answer = self.inner.read(buf);
+        counted(answer, &mut self.faults)
     }
 
     fn fault_count(&self) -> u64 {
@@ -65,13 +76,8 @@ impl<W: Write + Drop> ByteSink for Writing<W> {
     ghost faults = { λ s. s.faults };
 
     fn write_all(&mut self, bytes: &[u8]) -> Result<(), Failed> {
-        match self.inner.write_all(bytes) {
-            Ok(()) => Ok(()),
-            Err(_) => {
-                self.faults = self.faults.saturating_add(1);
-                Err(Failed)
-            }
-        }
+        let answer = self.inner.write_all(bytes);
+        counted(answer, &mut self.faults)
     }
 
     fn fault_count(&self) -> u64 {
@@ -112,13 +118,8 @@ impl Samples for OsSamples {
     ghost reads = { λ _ _ _ _. ⊤ };
 
     fn read(&mut self, buf: &mut [u8]) -> Result<usize, Failed> {
-        match self.device.next(buf) {
-            Ok(count) => Ok(count),
-            Err(_) => {
-                self.faults = self.faults.saturating_add(1);
-                Err(Failed)
-            }
-        }
+        let answer = self.device.next(buf);
+        counted(answer, &mut self.faults)
     }
 
     fn fault_count(&self) -> u64 {
@@ -126,22 +127,8 @@ impl Samples for OsSamples {
     }
 }
 
-/// The files and the noise sources of the system.
-#[derive(Drop)]
-pub struct OsWorld<'a, R> {
-    system: &'a R,
-    faults: u64,
-}
-
-impl<'a, R> OsWorld<'a, R> {
-    /// The system, of which nothing has failed yet.
-    pub fn new(system: &'a R) -> OsWorld<'a, R> {
-        OsWorld { system, faults: 0 }
-    }
-}
-
 // Opens samples by name: one that begins with `tcp:` is an address to connect to, any other is that of a file.
-fn open<R: Files<File = File> + Net<Stream = TcpStream>>(
+fn open_device<R: Files<File = File> + Net<Stream = TcpStream>>(
     system: &R,
     name: &str,
 ) -> io::Result<Device> {
@@ -151,27 +138,86 @@ fn open<R: Files<File = File> + Net<Stream = TcpStream>>(
     }
 }
 
-// Reads a file's bytes from a place on, until the buffer is full or the file ends. At its front nothing is sought, so that a
-// pipe can be read too.
-fn read_at<F: Files>(files: &F, name: &str, at: u64, buf: &mut [u8]) -> io::Result<usize>
-    ensures { ReadsAtMost result buf.new }
-{
-    let mut file = fs::open(files, name)?;
-    if 0 < at {
-        file.seek(SeekFrom::Start(at))?;
-    }
-    let mut have = 0;
-    'reads: while have < buf.len() {
-        let count = file.read(&mut buf[have..])?;
-        if count == 0 {
-            return Ok(have);
-        }
-        have += count;
-    }
-    Ok(have)
+// A file that is being read, its name, and the place up to which it was read.
+#[derive(Drop)]
+struct Opened {
+    name: String,
+    file: File,
+    at: u64,
 }
 
-impl<'a, R: Files<File = File> + Net<Stream = TcpStream>> World for OsWorld<'a, R> {
+impl Opened {
+    // Opens a file at a place. At its front nothing is sought, so that a pipe can be opened too.
+    fn open<R: Files<File = File> + AllocGlobal>(
+        system: &R,
+        name: &str,
+        at: u64,
+    ) -> io::Result<Opened> {
+        let owned = String::from_str(system.alloc(), name)?;
+        let mut file = fs::open(system, name)?;
+        if 0 < at {
+            file.seek(SeekFrom::Start(at))?;
+        }
+        Ok(Opened {
+            name: owned,
+            file,
+            at,
+        })
+    }
+
+    // Whether this is the file of that name, and was read up to that place.
+    fn stands_at(&self, name: &str, at: u64) -> bool {
+        self.name.as_str() == name && self.at == at
+    }
+
+    // Reads on.
+    fn read(&mut self, buf: &mut [u8]) -> io::Result<usize>
+        ensures { ReadsAtMost result buf.new }
+    {
+        let count = self.file.read(buf)?;
+        self.at = self.at.saturating_add(count as u64);
+        Ok(count)
+    }
+}
+
+/// The files and the noise sources of the system. The file that was read last stays open: a read of it from the place up to
+/// which it was read goes on there, so that what comes through a pipe can be read to its end, however long it is. A read of
+/// another file or from another place opens the file anew.
+#[derive(Drop)]
+pub struct OsWorld<'a, R> {
+    system: &'a R,
+    last: Option<Opened>,
+    faults: u64,
+}
+
+impl<'a, R> OsWorld<'a, R> {
+    /// The system, of which nothing has failed yet.
+    pub fn new(system: &'a R) -> OsWorld<'a, R> {
+        OsWorld {
+            system,
+            last: None,
+            faults: 0,
+        }
+    }
+}
+
+impl<'a, R: Files<File = File> + AllocGlobal> OsWorld<'a, R> {
+    // Reads a file's bytes from a place on, as many as come at once. After a failure no file stays open.
+    fn read_at(&mut self, name: &str, at: u64, buf: &mut [u8]) -> io::Result<usize>
+        ensures bound { ReadsAtMost result buf.new }
+        ensures faults { self.new.faults ≡ self.old.faults }
+    {
+        let mut opened = match self.last.take() {
+            Some(last) if last.stands_at(name, at) => last,
+            _ => Opened::open(self.system, name, at)?,
+        };
+        let count = opened.read(buf)?;
+        self.last = Some(opened);
+        Ok(count)
+    }
+}
+
+impl<'a, R: Files<File = File> + Net<Stream = TcpStream> + AllocGlobal> World for OsWorld<'a, R> {
     type Samples = OsSamples;
 
     ghost files = { λ _. None };
@@ -181,23 +227,14 @@ impl<'a, R: Files<File = File> + Net<Stream = TcpStream>> World for OsWorld<'a, 
     ghost faults = { λ s. s.faults };
 
     fn open_samples(&mut self, name: &str) -> Result<OsSamples, Failed> {
-        match open(self.system, name) {
-            Ok(device) => Ok(OsSamples { device, faults: 0 }),
-            Err(_) => {
-                self.faults = self.faults.saturating_add(1);
-                Err(Failed)
-            }
-        }
+        let answer = open_device(self.system, name);
+        let device = counted(answer, &mut self.faults)?;
+        Ok(OsSamples { device, faults: 0 })
     }
 
     fn read_file(&mut self, name: &str, at: u64, buf: &mut [u8]) -> Result<usize, Failed> {
-        match read_at(self.system, name, at, buf) {
-            Ok(count) => Ok(count),
-            Err(_) => {
-                self.faults = self.faults.saturating_add(1);
-                Err(Failed)
-            }
-        }
+        let answer = self.read_at(name, at, buf);
+        counted(answer, &mut self.faults)
     }
 
     fn fault_count(&self) -> u64 {

@@ -113,12 +113,12 @@ impl<S: Samples + Send> World for MemWorld<S> {
 
     ghost files = { λ w. Some w.files };
 
-    ghost recordings = { λ w. Some (recorded S.told w.samples) };
+    ghost recordings = { λ w. Some (recorded S.told S.faults w.samples) };
 
     ghost faults = { λ w. w.faults };
 
     fn open_samples(&mut self, name: &str) -> Result<S, Failed>
-        ensures samples { OpensSamples S.told (Some (recorded S.told self.old.samples)) (Some (recorded S.told self.new.samples)) name.now result }
+        ensures samples { OpensSamples S.told S.faults (Some (recorded S.told S.faults self.old.samples)) (Some (recorded S.told S.faults self.new.samples)) name.now result }
         ensures files { Some self.new.files ≡ Some self.old.files }
         ensures cause { HasCause self.old.faults self.new.faults result }
         ensures failed { IsErr result ↔ (Contains self.old.fail self.old.calls ⊎ AreMissing self.old.samples name.now) }
@@ -141,7 +141,7 @@ impl<S: Samples + Send> World for MemWorld<S> {
         ensures bound { ReadsAtMost result buf.new }
         ensures bytes { ReadsFile (Some self.old.files) name.now at result buf.new }
         ensures files { Some self.new.files ≡ Some self.old.files }
-        ensures recordings { Some (recorded S.told self.new.samples) ≡ Some (recorded S.told self.old.samples) }
+        ensures recordings { Some (recorded S.told S.faults self.new.samples) ≡ Some (recorded S.told S.faults self.old.samples) }
         ensures cause { HasCause self.old.faults self.new.faults result }
         ensures failed { IsErr result ↔ (Contains self.old.fail self.old.calls ⊎ IsMissing self.old.files name.now) }
         ensures count { IfOk result (λ n. (bytes : List ℕ) × IsFile self.old.files name.now bytes × (n ≡ min (length buf.old) (length bytes - at))) }

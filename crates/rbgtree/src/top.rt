@@ -4,7 +4,8 @@ ghost use Rattle.rbg_bytes.specs.Streams.{HasCause};
 ghost use Rattle.rbgtree.specs.Files.{BeginsFile, IsWholeFile};
 ghost use Rattle.rbgtree.specs.Commands.{IsCommand, IsNoCommand};
 ghost use Rattle.rbgtree.specs.Check.{IsPlanOf, HasNoPlan, HasPlanCause, HasChecked, HasCheckCause};
-ghost use Rattle.rbgtree.specs.Run.{Ran, RanSeed, RanCheck, HasStatusCause};
+ghost use Rattle.rbgtree.specs.Complete.{IsComplete};
+ghost use Rattle.rbgtree.specs.Run.{outside_of, Ran, RanSeed, HasStatusCause};
 
 use crate::answers::{HEAD_LEN, MAX_PAYLOAD};
 use crate::check::{BLANK, MAX_SOURCES, NotOpened, first_refused, open_all, print, try_all};
@@ -87,16 +88,12 @@ fn run_seed<W: World, I: ByteSource, O: ByteSink>(
     input: &mut I,
     output: &mut O,
 ) -> Status
-    ensures ran { RanSeed name.now
-        (record { files = W.files world.old; recordings = W.recordings world.old; left = I.left input.old; out = O.out output.old; world = W.faults world.old; input = I.faults input.old; output = O.faults output.old })
-        (record { files = W.files world.new; recordings = W.recordings world.new; left = I.left input.new; out = O.out output.new; world = W.faults world.new; input = I.faults input.new; output = O.faults output.new })
-        result }
+    ensures ran { let at = outside_of W.files W.recordings W.faults I.left I.faults O.out O.faults in
+        RanSeed name.now (at world.old input.old output.old) (at world.new input.new output.new) result }
     ensures files { W.files world.new ≡ W.files world.old }
     ensures recordings { W.recordings world.new ≡ W.recordings world.old }
-    ensures cause { HasStatusCause
-        (record { files = W.files world.old; recordings = W.recordings world.old; left = I.left input.old; out = O.out output.old; world = W.faults world.old; input = I.faults input.old; output = O.faults output.old })
-        (record { files = W.files world.new; recordings = W.recordings world.new; left = I.left input.new; out = O.out output.new; world = W.faults world.new; input = I.faults input.new; output = O.faults output.new })
-        result }
+    ensures cause { let at = outside_of W.files W.recordings W.faults I.left I.faults O.out O.faults in
+        HasStatusCause (at world.old input.old output.old) (at world.new input.new output.new) result }
 {
     let Ok((mut piece, mut buffer)) = buffers(alloc) else {
         return Status::Memory;
@@ -210,15 +207,13 @@ pub fn run<W: World, I: ByteSource, O: ByteSink>(
     input: &mut I,
     output: &mut O,
 ) -> Status
-    ensures ran { Ran W.Samples.told W.Samples.faults (map string_bytes words.now)
-        (record { files = W.files world.old; recordings = W.recordings world.old; left = I.left input.old; out = O.out output.old; world = W.faults world.old; input = I.faults input.old; output = O.faults output.old })
-        (record { files = W.files world.new; recordings = W.recordings world.new; left = I.left input.new; out = O.out output.new; world = W.faults world.new; input = I.faults input.new; output = O.faults output.new })
-        result }
+    ensures ran { let at = outside_of W.files W.recordings W.faults I.left I.faults O.out O.faults in
+        Ran W.Samples.told W.Samples.faults (map string_bytes words.now) (at world.old input.old output.old) (at world.new input.new output.new) result }
     ensures files { W.files world.new ≡ W.files world.old }
-    ensures cause { HasStatusCause
-        (record { files = W.files world.old; recordings = W.recordings world.old; left = I.left input.old; out = O.out output.old; world = W.faults world.old; input = I.faults input.old; output = O.faults output.old })
-        (record { files = W.files world.new; recordings = W.recordings world.new; left = I.left input.new; out = O.out output.new; world = W.faults world.new; input = I.faults input.new; output = O.faults output.new })
-        result }
+    ensures cause { let at = outside_of W.files W.recordings W.faults I.left I.faults O.out O.faults in
+        HasStatusCause (at world.old input.old output.old) (at world.new input.new output.new) result }
+    ensures complete { let at = outside_of W.files W.recordings W.faults I.left I.faults O.out O.faults in
+        IsComplete W.Samples.told W.Samples.faults (map string_bytes words.now) (at world.old input.old output.old) (at world.new input.new output.new) result }
 {
     match command_of(words) {
         Some(Command::Seed(name)) => run_seed(alloc, name, world, input, output),

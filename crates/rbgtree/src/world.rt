@@ -25,7 +25,7 @@ pub trait World: Drop {
 
     /// Opens the samples of that name. Of several with one name the first is opened, and is no longer there afterwards.
     fn open_samples(&mut self, name: &str) -> Result<Self::Samples, Failed>
-        ensures samples { OpensSamples Self.Samples.told (recordings self.old) (recordings self.new) name.now result }
+        ensures samples { OpensSamples Self.Samples.told Self.Samples.faults (recordings self.old) (recordings self.new) name.now result }
         ensures files { files self.new ≡ files self.old }
         ensures cause { HasCause (faults self.old) (faults self.new) result };
 

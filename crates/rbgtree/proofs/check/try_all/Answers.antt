@@ -17,12 +17,12 @@ loop-samples-preserved g c =
     let here = c.loop-samples.invariant.1 ∙ c.in-Some.ensures.steps.0 in
     let within : i < length opened = drop_within opened i c.in-Some.samples rest here in
     let room : i < length c.loop-samples.lines = omega (arith, within, c.requires.samples, c.requires.few, c.loop-samples.invariant.3, c.told-lines) in
-    let more = tried_more g.S.Samples.told g.S.Samples.faults c.args.plan.now.sources opened c.loop-samples.lines i c.source.result.now c.in-Some.samples rest c.try_source.result
-    c.loop-samples.invariant.0 c.source.ensures.value here room c.try_source.ensures in (
-      subst (λ (k : ℕ). AreTriedUpTo g.S.Samples.told g.S.Samples.faults (i + 1) c.args.plan.now.sources opened (set c.loop-samples.lines k c.try_source.result)) (sym c.from.ensures) more,
+    let more = tried_more g.S.Samples.told g.S.Samples.faults c.args.plan.now.sources opened c.loop-samples.lines i c.source.result.now c.in-Some.samples rest c.try_samples.result
+    c.loop-samples.invariant.0 c.source.ensures.value here room c.try_samples.ensures in (
+      subst (λ (k : ℕ). AreTriedUpTo g.S.Samples.told g.S.Samples.faults (i + 1) c.args.plan.now.sources opened (set c.loop-samples.lines k c.try_samples.result)) (sym c.from.ensures) more,
       drop_next opened i c.in-Some.samples rest here,
       omega (arith, within),
-      length-set c.loop-samples.lines c.from.result c.try_source.result ∙ c.loop-samples.invariant.3,
+      length-set c.loop-samples.lines c.from.result c.try_samples.result ∙ c.loop-samples.invariant.3,
     )
 
 pub returns : goal.returns

@@ -9,7 +9,7 @@ pub returns-in-Some-clause-samples : goal.returns-in-Some-clause-samples
 returns-in-Some-clause-samples g c =
     let same = ap (λ (w : Shelf g.row.S.Denot). w.samples) c.self.view_is in
     let out = subst (λ (es : List (List ℕ × g.row.S.Denot)). TakesOut es c.args.name.now c.in-Some.samples (labelled c.take_out.new.samples.items)) same c.in-Some.ensures.some in
-    (recorded g.S.Samples.told (labelled c.take_out.new.samples.items), refl, told_out g.S.Samples.told _ c.args.name.now c.in-Some.samples _ out)
+    (recorded g.S.Samples.told g.S.Samples.faults (labelled c.take_out.new.samples.items), refl, told_out g.S.Samples.told g.S.Samples.faults _ c.args.name.now c.in-Some.samples _ out)
 
 pub returns-in-Some-clause-failed : goal.returns-in-Some-clause-failed
 returns-in-Some-clause-failed g c = (
