@@ -12,4 +12,3 @@ pub mod Depths
 pub mod Openings
 pub mod Plans
 pub mod Complete
-pub mod Answered

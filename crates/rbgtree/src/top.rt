@@ -197,9 +197,12 @@ fn check<W: World, O: ByteSink>(
 /// Does what the words say, and says how that ended.
 ///
 /// - `seed FILE`: the first 48 bytes of FILE instantiate HMAC_DRBG over SHA-256 (32 of entropy, 16 of nonce), and the frames of
-///   the input are answered from it to the output, at most 1,048,576 of them. All memory is taken before the first read.
-/// - `check CONFIG`: the samples of each source of the configuration are opened, then each source is started once, in order,
-///   then a line is printed of each source and of each node. Nothing is read from the input.
+///   the input are answered from it to the output, at most 1,048,576 of them.
+/// - `check CONFIG`: the samples of each source of the configuration are opened, in order, each source is started once, and a
+///   line is printed of each source and of each node. Where samples could not be opened, those of the sources before were, and
+///   nothing is printed. Nothing is read from the input.
+///
+/// Where memory is lacking, nothing was read from the input, no samples were opened, and nothing was written.
 pub fn run<W: World, I: ByteSource, O: ByteSink>(
     alloc: Global,
     words: &[String],

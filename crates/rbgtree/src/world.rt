@@ -17,7 +17,7 @@ pub trait World: Drop {
     /// The files with their names, where the world tells them.
     ghost files: { Self → Option Entries };
 
-    /// The samples that can still be opened, with their names, where the world tells them.
+    /// The samples that can still be opened, with their names and with how often each failed, where the world tells them.
     ghost recordings: { Self → Option Recordings };
 
     /// How often the world has failed. The count never falls.
