@@ -112,35 +112,35 @@ no_fault files name text tree before now (SeedShort node have need) told plan no
 no_fault files name text tree before now (SourceRefused source) told plan none cause calm = absurd none
 
 -- each start is passed
-none_refused : {S : Type 0} (told : S → Option (List ℕ)) (faults : S → ℕ) (words : List (List ℕ)) (before now : Outside) (status : Status)
-    → (can : CanBePassed told faults words before now) → HasChecked told faults can.tree before.recordings now.recordings before.out now.out status
+none_refused : {S : Type 0} (told : S → Option (List ℕ)) (faults : S → ℕ) (reads : S → ℕ → Option (List ℕ) → S → Type 0) (words : List (List ℕ)) (before now : Outside) (status : Status)
+    → (can : CanBePassed told faults reads words before now) → HasChecked told faults reads can.tree before.recordings now.recordings before.out now.out status
     → HasStatusCause before now status → NoneRose before now → (status ≡ Done) ⊎ (status ≡ Memory)
-none_refused told faults words before now Done can did cause calm = inl refl
-none_refused told faults words before now Memory can did cause calm = inr refl
-none_refused told faults words before now (OpenFault count) can did cause calm = absurd (calm.world cause.0)
-none_refused told faults words before now (WriteFault count) can did cause calm = absurd (calm.output cause.0)
-none_refused told faults words before now (SourceRefused source) can (lines, tried, first, wrote) cause calm =
+none_refused told faults reads words before now Done can did cause calm = inl refl
+none_refused told faults reads words before now Memory can did cause calm = inr refl
+none_refused told faults reads words before now (OpenFault count) can did cause calm = absurd (calm.world cause.0)
+none_refused told faults reads words before now (WriteFault count) can did cause calm = absurd (calm.output cause.0)
+none_refused told faults reads words before now (SourceRefused source) can (lines, tried, first, wrote) cause calm =
     let passed = can.passes lines tried in
     absurd (let e : Some source ≡ None = sym first ∙ passed in cc)
-none_refused told faults words before now Usage can did cause calm = absurd did
-none_refused told faults words before now (Config fault) can did cause calm = absurd did
-none_refused told faults words before now (Malformed offset why) can did cause calm = absurd did
-none_refused told faults words before now (Cut offset) can did cause calm = absurd did
-none_refused told faults words before now (ReadFault count) can did cause calm = absurd did
-none_refused told faults words before now (Quota frames) can did cause calm = absurd did
-none_refused told faults words before now (SeedShort node have need) can did cause calm = absurd did
+none_refused told faults reads words before now Usage can did cause calm = absurd did
+none_refused told faults reads words before now (Config fault) can did cause calm = absurd did
+none_refused told faults reads words before now (Malformed offset why) can did cause calm = absurd did
+none_refused told faults reads words before now (Cut offset) can did cause calm = absurd did
+none_refused told faults reads words before now (ReadFault count) can did cause calm = absurd did
+none_refused told faults reads words before now (Quota frames) can did cause calm = absurd did
+none_refused told faults reads words before now (SeedShort node have need) can did cause calm = absurd did
 
-check_done : {S : Type 0} (told : S → Option (List ℕ)) (faults : S → ℕ) (words : List (List ℕ)) (before now : Outside) (status : Status)
-    → (can : CanBePassed told faults words before now) → RanCheck told faults can.name before now status
+check_done : {S : Type 0} (told : S → Option (List ℕ)) (faults : S → ℕ) (reads : S → ℕ → Option (List ℕ) → S → Type 0) (words : List (List ℕ)) (before now : Outside) (status : Status)
+    → (can : CanBePassed told faults reads words before now) → RanCheck told faults reads can.name before now status
     → HasStatusCause before now status → NoneRose before now → (status ≡ Done) ⊎ (status ≡ Memory)
-check_done told faults words before now status can (left, inl (none, recordings, out)) cause calm =
+check_done told faults reads words before now status can (left, inl (none, recordings, out)) cause calm =
     no_fault before.files can.name can.text can.tree before now status can.file can.plan none cause calm
-check_done told faults words before now status can (left, inr (tree, (text, whole, plan), did)) cause calm =
+check_done told faults reads words before now status can (left, inr (tree, (text, whole, plan), did)) cause calm =
     let same = one_file before.files can.name can.text text can.file whole in
     let one = plan_once can.text (Ok can.tree) (Ok tree) can.plan (subst (λ (t : List ℕ). Plan t (Ok tree)) (sym same) plan) in
     let planned : tree ≡ can.tree = cc in
-    none_refused told faults words before now status can
-    (subst (λ (t : Tree). HasChecked told faults t before.recordings now.recordings before.out now.out status) planned did) cause calm
+    none_refused told faults reads words before now status can
+    (subst (λ (t : Tree). HasChecked told faults reads t before.recordings now.recordings before.out now.out status) planned did) cause calm
 
 -- the words are one command
 apart : (words : List (List ℕ)) (a b : List ℕ) → IsSeedCommand words a → IsCheckCommand words b → ⊥
@@ -149,12 +149,12 @@ apart words a b seed check = let e : codes "seed" ∷ a ∷ [] ≡ codes "check"
 called_same : (words : List (List ℕ)) (a b : List ℕ) → IsCheckCommand words a → IsCheckCommand words b → a ≡ b
 called_same words a b one other = let e : codes "check" ∷ a ∷ [] ≡ codes "check" ∷ b ∷ [] = sym one ∙ other in cc
 
-pub complete : {S : Type 0} (told : S → Option (List ℕ)) (faults : S → ℕ) (words : List (List ℕ)) (before now : Outside) (status : Status)
-    → Ran told faults words before now status → HasStatusCause before now status → IsComplete told faults words before now status
-complete told faults words before now status (inl (name, seed, kept, ran)) cause calm (inl can) = seed_done words name before now status seed ran cause calm can
-complete told faults words before now status (inl (name, seed, kept, ran)) cause calm (inr can) = absurd (apart words name can.name seed can.command)
-complete told faults words before now status (inr (inl (name, check, ran))) cause calm (inl can) = absurd (apart words can.name name can.command check)
-complete told faults words before now status (inr (inl (name, check, ran))) cause calm (inr can) =
-    check_done told faults words before now status can (subst (λ (n : List ℕ). RanCheck told faults n before now status) (called_same words name can.name check can.command) ran) cause calm
-complete told faults words before now status (inr (inr (none, _, _, _))) cause calm (inl can) = absurd (none.seed can.name can.command)
-complete told faults words before now status (inr (inr (none, _, _, _))) cause calm (inr can) = absurd (none.check can.name can.command)
+pub complete : {S : Type 0} (told : S → Option (List ℕ)) (faults : S → ℕ) (reads : S → ℕ → Option (List ℕ) → S → Type 0) (words : List (List ℕ)) (before now : Outside) (status : Status)
+    → Ran told faults reads words before now status → HasStatusCause before now status → IsComplete told faults reads words before now status
+complete told faults reads words before now status (inl (name, seed, kept, ran)) cause calm (inl can) = seed_done words name before now status seed ran cause calm can
+complete told faults reads words before now status (inl (name, seed, kept, ran)) cause calm (inr can) = absurd (apart words name can.name seed can.command)
+complete told faults reads words before now status (inr (inl (name, check, ran))) cause calm (inl can) = absurd (apart words can.name name can.command check)
+complete told faults reads words before now status (inr (inl (name, check, ran))) cause calm (inr can) =
+    check_done told faults reads words before now status can (subst (λ (n : List ℕ). RanCheck told faults reads n before now status) (called_same words name can.name check can.command) ran) cause calm
+complete told faults reads words before now status (inr (inr (none, _, _, _))) cause calm (inl can) = absurd (none.seed can.name can.command)
+complete told faults reads words before now status (inr (inr (none, _, _, _))) cause calm (inr can) = absurd (none.check can.name can.command)

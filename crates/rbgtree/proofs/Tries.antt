@@ -58,14 +58,14 @@ set_else lines j i line other = elim (cases_lt j (length lines)) [
 ]
 
 -- a start of a source, whatever the source is like afterwards
-abbrev pub Tried : {S : Type 0} → (S → Option (List ℕ)) → (S → ℕ) → ℕ → SourcePlan → S → SourceLine → Type 0
-Tried {S} told faults i plan samples line = (after : SourceView S) × IsTried told faults i plan samples after line
+abbrev pub Tried : {S : Type 0} → (S → Option (List ℕ)) → (S → ℕ) → (S → ℕ → Option (List ℕ) → S → Type 0) → ℕ → SourcePlan → S → SourceLine → Type 0
+Tried {S} told faults reads i plan samples line = (after : SourceView S) × IsTried told faults reads i plan samples after line
 
 -- one source more
-pub tried_more : {S : Type 0} (told : S → Option (List ℕ)) (faults : S → ℕ) (plans : List SourcePlan) (opened : List S) (lines : List SourceLine) (i : ℕ) (plan : SourcePlan) (samples : S) (rest : List S) (line : SourceLine)
-    → AreTriedUpTo told faults i plans opened lines → slice_get plans i ≡ Some plan → drop i opened ≡ samples ∷ rest → i < length lines → Tried told faults i plan samples line
-    → AreTriedUpTo told faults (i + 1) plans opened (set lines i line)
-tried_more {S} told faults plans opened lines i plan samples rest line before plan_is samples_are within tried j p x l less p_is x_is l_is = elim (cases_lt j i) [
+pub tried_more : {S : Type 0} (told : S → Option (List ℕ)) (faults : S → ℕ) (reads : S → ℕ → Option (List ℕ) → S → Type 0) (plans : List SourcePlan) (opened : List S) (lines : List SourceLine) (i : ℕ) (plan : SourcePlan) (samples : S) (rest : List S) (line : SourceLine)
+    → AreTriedUpTo told faults reads i plans opened lines → slice_get plans i ≡ Some plan → drop i opened ≡ samples ∷ rest → i < length lines → Tried told faults reads i plan samples line
+    → AreTriedUpTo told faults reads (i + 1) plans opened (set lines i line)
+tried_more {S} told faults reads plans opened lines i plan samples rest line before plan_is samples_are within tried j p x l less p_is x_is l_is = elim (cases_lt j i) [
   | inl earlier ↦
       let other : j ≢ i = λ (e : j ≡ i). absurd (omega (arith, e)) in
       before j p x l earlier p_is x_is (sym (set_else lines j i line other) ∙ l_is)
@@ -74,8 +74,8 @@ tried_more {S} told faults plans opened lines i plan samples rest line before pl
       let plan_same : plan ≡ p = same plan p (sym plan_is ∙ (ap (λ (n : ℕ). slice_get plans n) here ∙ p_is)) in
       let samples_same : samples ≡ x = same samples x (sym (at_drop opened i samples rest samples_are) ∙ (ap (λ (n : ℕ). slice_get opened n) here ∙ x_is)) in
       let line_same : line ≡ l = same line l (sym (set_here lines i line within) ∙ (ap (λ (n : ℕ). slice_get (set lines i line) n) here ∙ l_is)) in
-      subst (λ (n : ℕ). Tried told faults n p x l) here (subst (λ (y : SourceLine). Tried told faults i p x y) line_same
-      (subst (λ (s : S). Tried told faults i p s line) samples_same (subst (λ (q : SourcePlan). Tried told faults i q samples line) plan_same tried)))
+      subst (λ (n : ℕ). Tried told faults reads n p x l) here (subst (λ (y : SourceLine). Tried told faults reads i p x y) line_same
+      (subst (λ (s : S). Tried told faults reads i p s line) samples_same (subst (λ (q : SourcePlan). Tried told faults reads i q samples line) plan_same tried)))
 ]
 
 taken_at : (lines : List SourceLine) (n j : ℕ) (line : SourceLine) → n ≤ length lines → j < n → slice_get (take n lines) j ≡ Some line → slice_get lines j ≡ Some line
@@ -85,10 +85,10 @@ taken_at lines n j line enough less is =
     slice_get-get_or lines j line long ∙ (ap Some (sym (get_or-take n lines j line less)) ∙ (sym (slice_get-get_or (take n lines) j line short) ∙ is))
 
 -- all sources
-pub tried_all : {S : Type 0} (told : S → Option (List ℕ)) (faults : S → ℕ) (plans : List SourcePlan) (opened : List S) (lines : List SourceLine) (i : ℕ)
-    → AreTriedUpTo told faults i plans opened lines → length opened ≡ length plans → drop i opened ≡ [] → length plans ≤ length lines
-    → AreTried told faults plans opened (take (length plans) lines)
-tried_all {S} told faults plans opened lines i before count end enough =
+pub tried_all : {S : Type 0} (told : S → Option (List ℕ)) (faults : S → ℕ) (reads : S → ℕ → Option (List ℕ) → S → Type 0) (plans : List SourcePlan) (opened : List S) (lines : List SourceLine) (i : ℕ)
+    → AreTriedUpTo told faults reads i plans opened lines → length opened ≡ length plans → drop i opened ≡ [] → length plans ≤ length lines
+    → AreTried told faults reads plans opened (take (length plans) lines)
+tried_all {S} told faults reads plans opened lines i before count end enough =
     let past : length plans ≤ i = let done = drop_end opened i end in omega (arith, done, count) in
     record {
       samples = count;

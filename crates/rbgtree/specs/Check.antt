@@ -1,10 +1,10 @@
 -- What `check` does: the plan of a configuration, the samples of each source, one start of each, and what is printed of them.
 -- SP 800-90B 4.3 for a start; else this project's own.
-use Rattle.std.specs.Prelude.{◌≡◌, ◌≤◌, ◌<◌, ℕ, ◌==◌, if◌then◌else◌, List, [], ◌∷◌, ◌++◌, length, take, map, flat_map, slice_get, Option, Some, None, Result, Ok, Err}
+use Rattle.std.specs.Prelude.{◌≡◌, ◌<◌, ℕ, ◌==◌, if◌then◌else◌, List, [], ◌∷◌, ◌++◌, length, take, map, flat_map, slice_get, Option, Some, None, Result, Ok, Err}
 use Rattle.std.specs.Io.KnownBytes.{Appends}
 use Rattle.rbg_bytes.specs.Streams.{Rose, AppendsFront}
-use Rattle.entropy_source.specs.Source.{opened_source}
-use Rattle.entropy_source.specs.Views.{SourceView, source_state, HasStarted}
+use Rattle.health_tests.specs.Numbers.{no_tail}
+use Rattle.entropy_source.specs.Views.{SourceView, opened_view, HasStarted}
 use Rattle.entropy_source.specs.declared.answers.SourceRow.{SourceRow}
 use Rattle.entropy_source.specs.declared.answers.SourceRefusal.{SourceRefusal}
 use Rattle.tree_config.specs.Tree.{Tree, Plan}
@@ -34,14 +34,11 @@ OpensAll before now _ _ = ⊥
 abbrev pub sample_names : List SourcePlan → List (List ℕ)
 sample_names sources = map (λ (source : SourcePlan). source.samples) sources
 
--- the samples of the first sources were opened, and no others
-pub record OpensFirst {S : Type 0} (told : S → Option (List ℕ)) (faults : S → ℕ) (sources : List SourcePlan) (before now : Option Recordings) (opened : List S) : Type 0 where
-  pub few : length opened ≤ length sources
-  pub opens : OpensAll before now (take (length opened) (sample_names sources)) (map (recording_of told faults) opened)
-
--- Samples were not all opened: those of the next source could not be, and those before it were; or, for want of memory, none were.
+-- Samples were not all opened: those of the first sources were, and those of the next one could not be; or, for want of memory,
+-- none were.
 abbrev pub HasNotOpened : {S : Type 0} → (S → Option (List ℕ)) → (S → ℕ) → List SourcePlan → Option Recordings → Option Recordings → NotOpened → Type 0
-HasNotOpened {S} told faults sources before now Fault = (opened : List S) × (length opened < length sources) × OpensFirst told faults sources before now opened
+HasNotOpened {S} told faults sources before now Fault = (opened : List S) × (length opened < length sources)
+    × OpensAll before now (take (length opened) (sample_names sources)) (map (recording_of told faults) opened)
 HasNotOpened told faults sources before now OutOfMemory = now ≡ before
 
 -- the world's count rose where samples could not be opened, and is as it was otherwise
@@ -55,22 +52,22 @@ row_of plan = record { num = plan.num; den = plan.den; cutoffs = plan.cutoffs; s
 
 -- One start of source j, over these samples, and what is printed of it. The source, and with it the count of faults of its samples,
 -- is then as the acts of the start leave it.
-pub record IsTried {S : Type 0} (told : S → Option (List ℕ)) (faults : S → ℕ) (j : ℕ) (plan : SourcePlan) (samples : S) (after : SourceView S) (line : SourceLine) : Type 0 where
+pub record IsTried {S : Type 0} (told : S → Option (List ℕ)) (faults : S → ℕ) (reads : S → ℕ → Option (List ℕ) → S → Type 0) (j : ℕ) (plan : SourcePlan) (samples : S) (after : SourceView S) (line : SourceLine) : Type 0 where
   pub result : Result (Unit {0}) SourceRefusal
-  pub started : HasStarted (row_of plan) result (opened_source (told samples) (faults samples)) (source_state told faults after)
+  pub started : HasStarted told faults reads result (opened_view (row_of plan) no_tail samples) after
   pub printed : line ≡ source_line j plan after.taken result
 
 -- One start of each of the first n sources. What is read of the samples later is not said.
-abbrev pub AreTriedUpTo : {S : Type 0} → (S → Option (List ℕ)) → (S → ℕ) → ℕ → List SourcePlan → List S → List SourceLine → Type 0
-AreTriedUpTo {S} told faults n plans opened lines =
+abbrev pub AreTriedUpTo : {S : Type 0} → (S → Option (List ℕ)) → (S → ℕ) → (S → ℕ → Option (List ℕ) → S → Type 0) → ℕ → List SourcePlan → List S → List SourceLine → Type 0
+AreTriedUpTo {S} told faults reads n plans opened lines =
     (j : ℕ) (plan : SourcePlan) (samples : S) (line : SourceLine) → j < n
-    → slice_get plans j ≡ Some plan → slice_get opened j ≡ Some samples → slice_get lines j ≡ Some line → (after : SourceView S) × IsTried told faults j plan samples after line
+    → slice_get plans j ≡ Some plan → slice_get opened j ≡ Some samples → slice_get lines j ≡ Some line → (after : SourceView S) × IsTried told faults reads j plan samples after line
 
 -- one start of each source
-pub record AreTried {S : Type 0} (told : S → Option (List ℕ)) (faults : S → ℕ) (plans : List SourcePlan) (opened : List S) (lines : List SourceLine) : Type 0 where
+pub record AreTried {S : Type 0} (told : S → Option (List ℕ)) (faults : S → ℕ) (reads : S → ℕ → Option (List ℕ) → S → Type 0) (plans : List SourcePlan) (opened : List S) (lines : List SourceLine) : Type 0 where
   pub samples : length opened ≡ length plans
   pub count : length lines ≡ length plans
-  pub each : AreTriedUpTo told faults (length plans) plans opened lines
+  pub each : AreTriedUpTo told faults reads (length plans) plans opened lines
 
 -- the least source whose start was refused
 abbrev pub first_refused : List SourceLine → Option ℕ
@@ -94,23 +91,23 @@ HasNoPlan files name (OpenFault count) = Unit {0}
 HasNoPlan files name status = ⊥
 
 -- the samples of a plan's sources were opened, and there is one start of each source
-pub record HasTried {S : Type 0} (told : S → Option (List ℕ)) (faults : S → ℕ) (tree : Tree) (before now : Option Recordings) (lines : List SourceLine) : Type 0 where
+pub record HasTried {S : Type 0} (told : S → Option (List ℕ)) (faults : S → ℕ) (reads : S → ℕ → Option (List ℕ) → S → Type 0) (tree : Tree) (before now : Option Recordings) (lines : List SourceLine) : Type 0 where
   pub opened : List S
   pub opens : OpensAll before now (sample_names tree.sources) (map (recording_of told faults) opened)
-  pub tried : AreTried told faults tree.sources opened lines
+  pub tried : AreTried told faults reads tree.sources opened lines
 
 -- what became of a plan, by the status: where samples could not be opened, those of the sources before are gone, and nothing is
 -- printed; after a failed write a front of the lines is
-abbrev pub HasChecked : {S : Type 0} → (S → Option (List ℕ)) → (S → ℕ) → Tree → Option Recordings → Option Recordings → Option (List ℕ) → Option (List ℕ) → Status → Type 0
-HasChecked told faults tree before now out_before out_now Memory = HasNotOpened told faults tree.sources before now OutOfMemory × (out_now ≡ out_before)
-HasChecked told faults tree before now out_before out_now (OpenFault count) = HasNotOpened told faults tree.sources before now Fault × (out_now ≡ out_before)
-HasChecked told faults tree before now out_before out_now Done =
-    (lines : List SourceLine) × HasTried told faults tree before now lines × (first_refused lines ≡ None) × Appends out_before out_now (printed tree lines)
-HasChecked told faults tree before now out_before out_now (SourceRefused source) =
-    (lines : List SourceLine) × HasTried told faults tree before now lines × (first_refused lines ≡ Some source) × Appends out_before out_now (printed tree lines)
-HasChecked told faults tree before now out_before out_now (WriteFault count) =
-    (lines : List SourceLine) × HasTried told faults tree before now lines × AppendsFront out_before out_now (printed tree lines)
-HasChecked told faults tree before now out_before out_now status = ⊥
+abbrev pub HasChecked : {S : Type 0} → (S → Option (List ℕ)) → (S → ℕ) → (S → ℕ → Option (List ℕ) → S → Type 0) → Tree → Option Recordings → Option Recordings → Option (List ℕ) → Option (List ℕ) → Status → Type 0
+HasChecked told faults reads tree before now out_before out_now Memory = HasNotOpened told faults tree.sources before now OutOfMemory × (out_now ≡ out_before)
+HasChecked told faults reads tree before now out_before out_now (OpenFault count) = HasNotOpened told faults tree.sources before now Fault × (out_now ≡ out_before)
+HasChecked told faults reads tree before now out_before out_now Done =
+    (lines : List SourceLine) × HasTried told faults reads tree before now lines × (first_refused lines ≡ None) × Appends out_before out_now (printed tree lines)
+HasChecked told faults reads tree before now out_before out_now (SourceRefused source) =
+    (lines : List SourceLine) × HasTried told faults reads tree before now lines × (first_refused lines ≡ Some source) × Appends out_before out_now (printed tree lines)
+HasChecked told faults reads tree before now out_before out_now (WriteFault count) =
+    (lines : List SourceLine) × HasTried told faults reads tree before now lines × AppendsFront out_before out_now (printed tree lines)
+HasChecked told faults reads tree before now out_before out_now status = ⊥
 
 -- the world's count rose where the file could not be read, and is as it was otherwise
 abbrev pub HasPlanCause : {T : Type 0} → ℕ → ℕ → Result T Status → Type 0

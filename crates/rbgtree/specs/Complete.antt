@@ -37,16 +37,16 @@ pub record CanBeServed (words : List (List ℕ)) (before : Outside) : Type 0 whe
   pub few : length asked < 1048576
 
 -- `check`, with a configuration that has no fault, over samples of which each start is passed
-pub record CanBePassed {S : Type 0} (told : S → Option (List ℕ)) (faults : S → ℕ) (words : List (List ℕ)) (before now : Outside) : Type 0 where
+pub record CanBePassed {S : Type 0} (told : S → Option (List ℕ)) (faults : S → ℕ) (reads : S → ℕ → Option (List ℕ) → S → Type 0) (words : List (List ℕ)) (before now : Outside) : Type 0 where
   pub name : List ℕ
   pub command : IsCheckCommand words name
   pub text : List ℕ
   pub file : IsToldFile before.files name text
   pub tree : Tree
   pub plan : Plan text (Ok tree)
-  pub passes : (lines : List SourceLine) → HasTried told faults tree before.recordings now.recordings lines → first_refused lines ≡ None
+  pub passes : (lines : List SourceLine) → HasTried told faults reads tree before.recordings now.recordings lines → first_refused lines ≡ None
 
 -- the work is then done, unless memory is lacking
-abbrev pub IsComplete : {S : Type 0} → (S → Option (List ℕ)) → (S → ℕ) → List (List ℕ) → Outside → Outside → Status → Type 0
-IsComplete told faults words before now status =
-    NoneRose before now → CanBeServed words before ⊎ CanBePassed told faults words before now → (status ≡ Done) ⊎ (status ≡ Memory)
+abbrev pub IsComplete : {S : Type 0} → (S → Option (List ℕ)) → (S → ℕ) → (S → ℕ → Option (List ℕ) → S → Type 0) → List (List ℕ) → Outside → Outside → Status → Type 0
+IsComplete told faults reads words before now status =
+    NoneRose before now → CanBeServed words before ⊎ CanBePassed told faults reads words before now → (status ≡ Done) ⊎ (status ≡ Memory)

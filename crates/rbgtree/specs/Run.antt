@@ -64,18 +64,18 @@ RanSeed name before now (SeedShort node have need) =
 RanSeed name before now status = (end : End) × (status ≡ status_of end) × Served name before now end
 
 -- what `check` did, by the status; it reads nothing from the input
-abbrev pub RanCheck : {S : Type 0} → (S → Option (List ℕ)) → (S → ℕ) → List ℕ → Outside → Outside → Status → Type 0
-RanCheck told faults name before now status =
+abbrev pub RanCheck : {S : Type 0} → (S → Option (List ℕ)) → (S → ℕ) → (S → ℕ → Option (List ℕ) → S → Type 0) → List ℕ → Outside → Outside → Status → Type 0
+RanCheck told faults reads name before now status =
     (now.left ≡ before.left)
     × ((HasNoPlan before.files name status × (now.recordings ≡ before.recordings) × (now.out ≡ before.out))
-    ⊎ ((tree : Tree) × IsPlanOf before.files name tree × HasChecked told faults tree before.recordings now.recordings before.out now.out status))
+    ⊎ ((tree : Tree) × IsPlanOf before.files name tree × HasChecked told faults reads tree before.recordings now.recordings before.out now.out status))
 
--- what was done, by the words and the status; files stay as they are. The first two arguments say what samples tell, and how often
--- they failed.
-abbrev pub Ran : {S : Type 0} → (S → Option (List ℕ)) → (S → ℕ) → List (List ℕ) → Outside → Outside → Status → Type 0
-Ran told faults words before now status =
+-- what was done, by the words and the status; files stay as they are. The first three arguments say what samples tell, how often
+-- they failed, and which reads lead from one value of them to another.
+abbrev pub Ran : {S : Type 0} → (S → Option (List ℕ)) → (S → ℕ) → (S → ℕ → Option (List ℕ) → S → Type 0) → List (List ℕ) → Outside → Outside → Status → Type 0
+Ran told faults reads words before now status =
     ((name : List ℕ) × IsSeedCommand words name × (now.recordings ≡ before.recordings) × RanSeed name before now status)
-    ⊎ ((name : List ℕ) × IsCheckCommand words name × RanCheck told faults name before now status)
+    ⊎ ((name : List ℕ) × IsCheckCommand words name × RanCheck told faults reads name before now status)
     ⊎ (IsNoCommand words × (status ≡ Usage) × (now.recordings ≡ before.recordings) × IsUntouched before now)
 
 -- no count of faults grew

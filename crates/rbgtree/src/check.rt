@@ -101,7 +101,7 @@ fn try_source<S: Samples>(
 ) -> SourceLine
     requires range { IsSource plan.now }
     requires opened { source.old ≡ opened_view (row_of plan.now) no_tail source.old.samples }
-    ensures { IsTried S.told S.faults number plan.now source.old.samples source.new result }
+    ensures { IsTried S.told S.faults S.reads number plan.now source.old.samples source.new result }
 {
     let answer = answer_of(number, source.start());
     SourceLine {
@@ -119,7 +119,7 @@ fn try_source<S: Samples>(
 // Opens a source over samples, and starts it once.
 fn try_samples<S: Samples>(number: u8, plan: &SourcePlan, samples: S) -> SourceLine
     requires { IsSource plan.now }
-    ensures { (after : SourceView S) × IsTried S.told S.faults number plan.now samples after result }
+    ensures { (after : SourceView S) × IsTried S.told S.faults S.reads number plan.now samples after result }
 {
     let mut source = EntropySource::open(samples, row_of(plan));
     try_source(number, plan, &mut source)
@@ -129,7 +129,7 @@ fn try_samples<S: Samples>(number: u8, plan: &SourcePlan, samples: S) -> SourceL
 pub fn try_all<S: Samples>(plan: &TreePlan, opened: Vec<S>, lines: &mut [SourceLine; MAX_SOURCES])
     requires samples { length opened.items ≡ length plan.now.sources }
     requires few { length plan.now.sources ≤ 4 }
-    ensures tried { AreTried S.told S.faults plan.now.sources opened.items (take (length plan.now.sources) lines.new) }
+    ensures tried { AreTried S.told S.faults S.reads plan.now.sources opened.items (take (length plan.now.sources) lines.new) }
 {
     let mut number = 0u8;
     for samples in opened {

@@ -166,7 +166,7 @@ fn check<W: World, O: ByteSink>(
     world: &mut W,
     output: &mut O,
 ) -> Status
-    ensures checked { HasChecked W.Samples.told W.Samples.faults plan.now (W.recordings world.old) (W.recordings world.new) (O.out output.old) (O.out output.new) result }
+    ensures checked { HasChecked W.Samples.told W.Samples.faults W.Samples.reads plan.now (W.recordings world.old) (W.recordings world.new) (O.out output.old) (O.out output.new) result }
     ensures files { W.files world.new ≡ W.files world.old }
     ensures cause { HasCheckCause (W.faults world.old) (W.faults world.new) (O.faults output.old) (O.faults output.new) result }
 {
@@ -211,12 +211,12 @@ pub fn run<W: World, I: ByteSource, O: ByteSink>(
     output: &mut O,
 ) -> Status
     ensures ran { let at = outside_of W.files W.recordings W.faults I.left I.faults O.out O.faults in
-        Ran W.Samples.told W.Samples.faults (map string_bytes words.now) (at world.old input.old output.old) (at world.new input.new output.new) result }
+        Ran W.Samples.told W.Samples.faults W.Samples.reads (map string_bytes words.now) (at world.old input.old output.old) (at world.new input.new output.new) result }
     ensures files { W.files world.new ≡ W.files world.old }
     ensures cause { let at = outside_of W.files W.recordings W.faults I.left I.faults O.out O.faults in
         HasStatusCause (at world.old input.old output.old) (at world.new input.new output.new) result }
     ensures complete { let at = outside_of W.files W.recordings W.faults I.left I.faults O.out O.faults in
-        IsComplete W.Samples.told W.Samples.faults (map string_bytes words.now) (at world.old input.old output.old) (at world.new input.new output.new) result }
+        IsComplete W.Samples.told W.Samples.faults W.Samples.reads (map string_bytes words.now) (at world.old input.old output.old) (at world.new input.new output.new) result }
 {
     match command_of(words) {
         Some(Command::Seed(name)) => run_seed(alloc, name, world, input, output),

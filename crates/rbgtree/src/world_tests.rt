@@ -77,15 +77,20 @@ fn real_files_readers_and_writers(rt: HostRuntime) -> Result<(), Fail> {
     std::fs::write(&rt, name, "0123456789")?;
     let mut world = OsWorld::new(&rt);
     let mut buf = [0u8; 4];
+    assert_eq!(rt; world.read_file(name, 8, &mut buf), Ok(2));
+    assert_eq!(rt; buf, *b"89\0\0");
     assert_eq!(rt; world.read_file(name, 0, &mut buf), Ok(4));
     assert_eq!(rt; buf, *b"0123");
-    assert_eq!(rt; world.read_file(name, 8, &mut buf), Ok(2));
-    assert_eq!(rt; buf, *b"8923");
-    assert_eq!(rt; world.read_file(name, 10, &mut buf), Ok(0));
     std::fs::remove_file(&rt, name)?;
+    // The file stays open: reads go on where the last one ended, and from nowhere else.
+    assert_eq!(rt; world.read_file(name, 4, &mut buf), Ok(4));
+    assert_eq!(rt; buf, *b"4567");
+    assert_eq!(rt; world.read_file(name, 8, &mut buf), Ok(2));
+    assert_eq!(rt; world.read_file(name, 10, &mut buf), Ok(0));
     assert_eq!(rt; world.read_file(name, 0, &mut buf), Err(Failed));
+    assert_eq!(rt; world.read_file(name, 10, &mut buf), Err(Failed));
     assert_eq!(rt; world.read_file(".", 0, &mut buf), Err(Failed));
-    assert_eq!(rt; world.fault_count(), 2);
+    assert_eq!(rt; world.fault_count(), 3);
 
     let mut reading = Reading::new(b"abcde".as_slice());
     assert_eq!(rt; reading.read(&mut buf), Ok(4));
