@@ -1,12 +1,11 @@
 -- That the program ends with its work done where nothing stands in its way.
-use Rattle.std.proofs.Common.{◌≡◌, ◌≤◌, ◌<◌, ◌⊎◌, ℕ, ◌∷◌, List, [], ◌++◌, length, length-append, map, take, drop, refl, sym, ap, ◌∙◌, inl, inr, subst, arith, append-nil}
+use Rattle.std.proofs.Common.{◌≡◌, ◌<◌, ◌⊎◌, ℕ, ◌∷◌, List, [], ◌++◌, length, length-append, map, take, drop, refl, sym, ap, ◌∙◌, inl, inr, subst, arith, append-nil}
 use Rattle.std.specs.Prelude.{Option, Some, None, Ok, Err, codes}
 use Rattle.std.specs.Io.KnownBytes.{Consumes, IsAtEnd}
 use Rattle.std.proofs.lemmas.List.{take-append-drop, length-map}
-use Rattle.frame_codec.specs.Frames.{Asked, IsScript, BeginsWith}
+use Rattle.frame_codec.specs.Frames.{Asked, IsScript}
 use Rattle.frame_codec.proofs.RequestLaws.{one-script, script-longer, script-not-bad, bad-more, begins-more}
 use Rattle.hmac_core.specs.declared.hash.Hash.{Hash}
-use Rattle.hmac_core.specs.declared.hash.Hash.TheVariants.{Sha256}
 use Rattle.hmac_drbg.specs.HmacDrbg.{Working}
 use Rattle.tree_config.specs.Tree.{Tree, Plan}
 use Rattle.tree_config.proofs.Once.{plan_once}
@@ -15,8 +14,8 @@ use Rattle.rbgtree.specs.declared.ends.End.TheVariants as ends
 use Rattle.rbgtree.specs.declared.status.Status.{Status}
 use Rattle.rbgtree.specs.declared.status.Status.TheVariants.{Done, Usage, Config, Malformed, Cut, ReadFault, WriteFault, OpenFault, Memory, Quota, SeedShort, SourceRefused}
 use Rattle.rbgtree.specs.Answers.{Answered}
-use Rattle.rbgtree.specs.Files.{Entries, IsFile, IsWholeFile}
-use Rattle.rbgtree.specs.Check.{HasNoPlan, HasChecked, IsPlanOf}
+use Rattle.rbgtree.specs.Files.{Entries, IsWholeFile}
+use Rattle.rbgtree.specs.Check.{HasNoPlan, HasChecked}
 use Rattle.rbgtree.specs.Commands.{IsSeedCommand, IsCheckCommand}
 use Rattle.rbgtree.specs.Statuses.{status_of}
 use Rattle.rbgtree.specs.Session.{Session}

@@ -1,5 +1,5 @@
 -- Samples that are opened one after another.
-use Rattle.std.proofs.Common.{◌≡◌, ℕ, zero, suc, ◌+◌, List, [], ◌∷◌, ◌++◌, length, map, take, refl, ap, ◌∙◌, sym, subst, arith}
+use Rattle.std.proofs.Common.{◌≡◌, ℕ, zero, suc, ◌+◌, List, [], ◌∷◌, ◌++◌, map, take, refl, ap, ◌∙◌, subst, arith}
 use Rattle.std.specs.Prelude.{Option, Some, None, unwrap_or, Ok, Err, slice_get}
 use Rattle.rbgtree.specs.Recordings.{Recording, Recordings, recording_of, OpensSamples}
 use Rattle.rbgtree.specs.Check.{OpensOne, OpensAll}

@@ -4,7 +4,7 @@ ghost use Rattle.std.specs.Prelude.{◌≡◌, ◌≤◌, length, take, map, IfO
 ghost use Rattle.rbg_bytes.specs.Streams.{HasCause, TakesAll};
 ghost use Rattle.tree_config.specs.Planned.{IsSource};
 ghost use Rattle.health_tests.specs.Numbers.{no_tail};
-ghost use Rattle.entropy_source.specs.Views.{SourceView, opened_view};
+ghost use Rattle.entropy_source.specs.Views.{SourceView, opened_view, HasStarted};
 ghost use Rattle.rbgtree.specs.Recordings.{recording_of};
 ghost use Rattle.rbgtree.specs.Check.{sample_names, OpensAll, HasOpenCause, HasNotOpened, IsTried, AreTried, row_of, first_refused, printed};
 ghost use Rattle.rbgtree.specs.Printed.{test_number, error_answer, answer_of, node_lines};
@@ -93,6 +93,15 @@ fn row_of(plan: &SourcePlan) -> SourceRow
     }
 }
 
+// Starts a source of which no sample was taken.
+fn start_fresh<S: Samples>(source: &mut EntropySource<S>) -> Result<(), SourceRefusal>
+    requires fresh { source.old.taken ≡ 0 }
+    requires startup { source.old.row.startup ≤ 65536 }
+    ensures { HasStarted S.told S.faults S.reads result source.old source.new }
+{
+    source.start()
+}
+
 // Starts a source that was just opened once, and says what is printed of it.
 fn try_source<S: Samples>(
     number: u8,
@@ -103,7 +112,7 @@ fn try_source<S: Samples>(
     requires opened { source.old ≡ opened_view (row_of plan.now) no_tail source.old.samples }
     ensures { IsTried S.told S.faults S.reads number plan.now source.old.samples source.new result }
 {
-    let answer = answer_of(number, source.start());
+    let answer = answer_of(number, start_fresh(source));
     SourceLine {
         number,
         rct: plan.cutoffs.rct(),

@@ -1,11 +1,10 @@
-use Rattle.std.proofs.Common.{◌≡◌, ◌≤◌, ◌<◌, ◌+◌, ◌∷◌, ◌++◌, [], ℕ, List, length, length-append, map, take, sym, subst, ap, ◌∙◌, arith}
-use Rattle.std.specs.Prelude.{Option}
+use Rattle.std.proofs.Common.{◌≡◌, ◌≤◌, ◌∷◌, ◌++◌, [], ℕ, List, length, length-append, map, take, sym, subst, ap, ◌∙◌, arith}
 use Rattle.std.proofs.lemmas.List.{length-map, map-append, take_all}
 use Rattle.tree_config.specs.declared.plan.SourcePlan.{SourcePlan}
 use Rattle.rbg_bytes.specs.declared.stream.Failed.{Failed}
-use Rattle.rbgtree.specs.Recordings.{Recording, Recordings, recording_of}
+use Rattle.rbgtree.specs.Recordings.{Recording, recording_of}
 use Rattle.rbgtree.specs.Check.{sample_names, OpensOne, OpensAll}
-use Rattle.rbgtree.proofs.Openings.{opens_one, opens_none, opens_more, take_next}
+use Rattle.rbgtree.proofs.Openings.{opens_one, opens_more, take_next}
 use Rattle.rbgtree.proofs.check.open_all.Goals as goal
 
 pub loop-number-preserved : goal.loop-number-preserved
