@@ -4,7 +4,8 @@
  *   health_peer local SAMPLES TIMES   the tests' numbers in local variables of one loop, and the cutoffs as constants
  *   health_peer usual SAMPLES TIMES   the same, with three comparisons for the usual sample before anything else
  *
- * Each form is a function that is called, as ours are. All do the work of health_bench, with the same line on standard output.
+ * Each form is a function that is called, as ours are. All do the work of rbg_bench's health tests, with the same
+ * line on standard output.
  */
 #include <stdint.h>
 #include <stdio.h>

@@ -2,7 +2,7 @@
  *
  *   mbedtls_peer ctr-aes-256 BYTES TIMES   CTR_DRBG with AES-256 and the derivation function: the work of rbg_bench, with the same
  *                                          line on standard output; at most 1,024 bytes
- *   mbedtls_peer aes-128-block TIMES       AES-128: the work of primitive_bench, with the same line on standard output
+ *   mbedtls_peer aes-128-block TIMES       AES-128: the work of rbg_bench, with the same line on standard output
  */
 #include <limits.h>
 #include <string.h>

@@ -1,2 +1,3 @@
-mod More
-mod Three
+pub mod Asking
+pub mod Generates
+pub mod RunByRun

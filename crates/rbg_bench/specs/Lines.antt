@@ -1,27 +1,35 @@
--- The words that name the mechanisms, and the line that is printed for a job.
+-- The line that is printed for a job.
 -- This project's own.
-use Rattle.std.specs.Prelude.{ℕ, List, codes}
+use Rattle.std.specs.Prelude.{ℕ, ◌*◌, List, ◌++◌, codes, decimal, replicate}
 use Rattle.hex.specs.Hex.{encode_lower}
 use Rattle.sha2.specs.Sha256.{sha256}
-use Rattle.hmac_core.specs.declared.hash.Hash.TheVariants.{Sha224, Sha256, Sha384, Sha512, Sha512_224, Sha512_256}
-use Rattle.df_core.specs.declared.key_len.KeyLen.TheVariants.{K16, K24, K32}
-use Rattle.rbg_bench.specs.declared.job.Mechanism.{Mechanism}
-use Rattle.rbg_bench.specs.declared.job.Mechanism.TheVariants.{OverHash, OverAes}
+use Rattle.health_tests.specs.Cutoffs.{Limits}
+use Rattle.rbg_bench.specs.declared.job.Primitive.{Primitive}
+use Rattle.rbg_bench.specs.declared.job.Primitive.TheVariants.{AesBlock, HashOfZeros}
+use Rattle.rbg_bench.specs.declared.job.Job.{Job}
+use Rattle.rbg_bench.specs.declared.job.Job.TheVariants.{Generates, Repeats, Tests}
+use Rattle.rbg_bench.specs.declared.runs.Totals.{Totals}
 use Rattle.rbg_bench.specs.Outputs.{outputs}
 use Rattle.rbg_bench.specs.Workers.{instantiated}
+use Rattle.rbg_bench.specs.Iterated.{iterated, counting_key}
+use Rattle.rbg_bench.specs.Samples.{generated}
+use Rattle.rbg_bench.specs.Runs.{totals_of}
 
--- the word for a mechanism
-abbrev pub name_of : Mechanism → List ℕ
-name_of (OverHash Sha224) = codes "hmac-sha-224"
-name_of (OverHash Sha256) = codes "hmac-sha-256"
-name_of (OverHash Sha384) = codes "hmac-sha-384"
-name_of (OverHash Sha512) = codes "hmac-sha-512"
-name_of (OverHash Sha512_224) = codes "hmac-sha-512-224"
-name_of (OverHash Sha512_256) = codes "hmac-sha-512-256"
-name_of (OverAes K16) = codes "ctr-aes-128"
-name_of (OverAes K24) = codes "ctr-aes-192"
-name_of (OverAes K32) = codes "ctr-aes-256"
+-- what a primitive gives, so many times: the block of zeros encrypted, or the SHA-256 of pieces of 65,536 zeros
+abbrev pub repeated : Primitive → ℕ → List ℕ
+repeated AesBlock times = iterated counting_key times (replicate 16 0)
+repeated HashOfZeros times = sha256 (replicate (65536 * times) 0)
 
--- the SHA-256 of the bytes of so many generates of so many bytes, one after another, in lower-case hexadecimal
-abbrev pub line_of : Mechanism → ℕ → ℕ → List ℕ
-line_of m bytes times = encode_lower (sha256 (outputs bytes times (instantiated m)))
+-- low enough that some run alarms: five equal samples, and eight of a window's 512 like its first
+abbrev pub low_cutoffs : Limits
+low_cutoffs = record { rct = 5; window = 512; apt = 8 }
+
+-- how many samples were tested, and how many of the runs alarmed
+abbrev pub totals_text : Totals → List ℕ
+totals_text t = decimal t.samples ++ (codes " samples, " ++ (decimal t.alarms ++ codes " alarms"))
+
+-- for generates the SHA-256 of their bytes, one after another; what is hashed or encrypted is printed in lower-case hexadecimal
+abbrev pub line_of : Job → List ℕ
+line_of (Generates mechanism bytes times) = encode_lower (sha256 (outputs bytes times (instantiated mechanism)))
+line_of (Repeats primitive times) = encode_lower (repeated primitive times)
+line_of (Tests form samples times) = totals_text (totals_of low_cutoffs times (generated samples 0))

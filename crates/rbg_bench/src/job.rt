@@ -1,9 +1,13 @@
 // What the words ask for.
-ghost use Rattle.std.specs.Prelude.{◌≡◌, ◌≤◌, ◌<◌, ◌^◌, ◌∷◌, [], ℕ, map, take, decimal, string_bytes, Some, IfSome, IfNone};
+ghost use Rattle.std.specs.Prelude.{◌≡◌, ◌≤◌, ◌∷◌, [], ℕ, map, string_bytes, IfSome, IfNone};
+ghost use Rattle.rbg_bench.specs.Words.{mechanism_name, primitive_name, form_name};
+ghost use Rattle.rbg_bench.specs.Jobs.{AsksFor, IsInRange};
 ghost use Rattle.rbg_bench.specs.declared.job.Mechanism.{Mechanism};
+ghost use Rattle.rbg_bench.specs.declared.job.Primitive.{Primitive};
+ghost use Rattle.rbg_bench.specs.declared.job.Form.{Form};
 ghost use Rattle.rbg_bench.specs.declared.job.Job.{Job};
-ghost use Rattle.rbg_bench.specs.Lines.{name_of};
 
+use crate::words::number;
 use ctr_drbg::KeyLen;
 use hmac_core::Hash;
 
@@ -14,18 +18,35 @@ pub enum Mechanism {
     OverAes(KeyLen),
 }
 
-// The mechanism, the bytes of each generate and how many generates.
+// One block of AES-128 (FIPS 197), or SHA-256 (FIPS 180-4) of a piece of 65,536 bytes.
 #[derive(Clone, Copy)]
-pub struct Job {
-    pub mechanism: Mechanism,
-    pub bytes: usize,
-    pub times: u32,
+pub enum Primitive {
+    AesBlock,
+    HashOfZeros,
+}
+
+// How the health tests get the samples: one a call, or all in one call.
+#[derive(Clone, Copy)]
+pub enum Form {
+    Step,
+    Slice,
+}
+
+// The work, and how many times it is done.
+#[derive(Clone, Copy)]
+pub enum Job {
+    // Generates of so many bytes.
+    Generates(Mechanism, usize, u32),
+    // One primitive again and again.
+    Repeats(Primitive, u32),
+    // The health tests over so many samples.
+    Tests(Form, usize, u32),
 }
 
 // The mechanism that a word names.
 fn mechanism_named(word: &str) -> Option<Mechanism>
-    ensures named { IfSome result (λ mechanism. word.now ≡ name_of mechanism) }
-    ensures unnamed { IfNone result ((mechanism : Mechanism) → word.now ≡ name_of mechanism → ⊥) }
+    ensures named { IfSome result (λ mechanism. word.now ≡ mechanism_name mechanism) }
+    ensures unnamed { IfNone result ((mechanism : Mechanism) → word.now ≡ mechanism_name mechanism → ⊥) }
 {
     match word {
         "hmac-sha-224" => Some(Mechanism::OverHash(Hash::Sha224)),
@@ -41,40 +62,81 @@ fn mechanism_named(word: &str) -> Option<Mechanism>
     }
 }
 
-// The number that a word writes in decimal, where it is in this range.
-fn number(word: &str, least: u64, most: u64) -> Option<u64>
-    ensures read { (n : ℕ) → least ≤ n → n ≤ most → word.now ≡ decimal n → result ≡ Some n }
-    ensures range { IfSome result (λ n. (least ≤ n) × (n ≤ most)) }
+// The primitive that a word names.
+fn primitive_named(word: &str) -> Option<Primitive>
+    ensures named { IfSome result (λ primitive. word.now ≡ primitive_name primitive) }
+    ensures unnamed { IfNone result ((primitive : Primitive) → word.now ≡ primitive_name primitive → ⊥) }
 {
-    let number = word.parse::<u64>().ok()?;
-    if number < least {
-        return None;
+    match word {
+        "aes-128-block" => Some(Primitive::AesBlock),
+        "sha-256" => Some(Primitive::HashOfZeros),
+        _ => None,
     }
-    if number > most {
-        return None;
-    }
-    Some(number)
 }
 
-// The job, where there are three words, BYTES is at most 65,536 and TIMES 1 to 1,000,000.
-pub fn read_job(words: &[String]) -> Option<Job>
-    ensures mechanism { IfSome result (λ job. take 1 (map string_bytes words.now) ≡ name_of job.mechanism ∷ []) }
-    ensures bytes { IfSome result (λ job. job.bytes ≤ 65536) }
-    ensures times { IfSome result (λ job. (1 ≤ job.times) × (job.times ≤ 1000000)) }
-
-    // Numbers in decimal, within these ranges, are read as they are.
-    ensures read { (mechanism : Mechanism) (bytes times : ℕ) → map string_bytes words.now ≡ name_of mechanism ∷ decimal bytes ∷ decimal times ∷ [] →
-        bytes ≤ 65536 → 1 ≤ times → times ≤ 1000000 → (job : Job) × (result ≡ Some job) × (job.bytes ≡ bytes) × (job.times ≡ times) }
+// The form that a word names.
+fn form_named(word: &str) -> Option<Form>
+    ensures named { IfSome result (λ form. word.now ≡ form_name form) }
+    ensures unnamed { IfNone result ((form : Form) → word.now ≡ form_name form → ⊥) }
 {
-    let [mechanism, bytes, times] = words else {
-        return None;
-    };
-    let mechanism = mechanism_named(mechanism.as_str())?;
-    let bytes = number(bytes.as_str(), 0, 65_536)?;
-    let times = number(times.as_str(), 1, 1_000_000)?;
-    Some(Job {
-        mechanism,
-        bytes: bytes as usize,
-        times: times as u32,
-    })
+    match word {
+        "health-step" => Some(Form::Step),
+        "health-slice" => Some(Form::Slice),
+        _ => None,
+    }
+}
+
+// The generates that three words ask for: up to 65,536 bytes, 1 to 1,000,000 times.
+fn generates(name: &str, bytes: &str, times: &str) -> Option<Job>
+    ensures asked { IfSome result (λ job. AsksFor (name.now ∷ bytes.now ∷ times.now ∷ []) job × IsInRange job) }
+    ensures refused { IfNone result ((m : Mechanism) (b t : ℕ) →
+        AsksFor (name.now ∷ bytes.now ∷ times.now ∷ []) (Job.Generates m b t) → IsInRange (Job.Generates m b t) → ⊥) }
+{
+    let mechanism = mechanism_named(name)?;
+    let bytes = number(bytes, 0, 65_536)?;
+    let times = number(times, 1, 1_000_000)?;
+    Some(Job::Generates(mechanism, bytes as usize, times as u32))
+}
+
+// The repeats that two words ask for: 1 to 100,000,000.
+fn repeats(name: &str, times: &str) -> Option<Job>
+    ensures asked { IfSome result (λ job. AsksFor (name.now ∷ times.now ∷ []) job × IsInRange job) }
+    ensures refused { IfNone result ((p : Primitive) (t : ℕ) →
+        AsksFor (name.now ∷ times.now ∷ []) (Job.Repeats p t) → IsInRange (Job.Repeats p t) → ⊥) }
+{
+    let primitive = primitive_named(name)?;
+    let times = number(times, 1, 100_000_000)?;
+    Some(Job::Repeats(primitive, times as u32))
+}
+
+// The runs of the health tests that three words ask for: over 1 to 16,777,216 samples, 1 to 1,000,000 times.
+fn tests(name: &str, samples: &str, times: &str) -> Option<Job>
+    ensures asked { IfSome result (λ job. AsksFor (name.now ∷ samples.now ∷ times.now ∷ []) job × IsInRange job) }
+    ensures refused { IfNone result ((f : Form) (s t : ℕ) →
+        AsksFor (name.now ∷ samples.now ∷ times.now ∷ []) (Job.Tests f s t) → IsInRange (Job.Tests f s t) → ⊥) }
+{
+    let form = form_named(name)?;
+    let samples = number(samples, 1, 16_777_216)?;
+    let times = number(times, 1, 1_000_000)?;
+    Some(Job::Tests(form, samples as usize, times as u32))
+}
+
+// The job that the words ask for, where they ask for one that is in range.
+pub fn read_job(words: &[String]) -> Option<Job>
+    ensures asked { IfSome result (λ job. AsksFor (map string_bytes words.now) job × IsInRange job) }
+    ensures refused { IfNone result ((job : Job) → AsksFor (map string_bytes words.now) job → IsInRange job → ⊥) }
+{
+    match words {
+        [name, times] => repeats(name.as_str(), times.as_str()),
+        [name, size, times] => {
+            let name_text = name.as_str();
+            let size_text = size.as_str();
+            let times_text = times.as_str();
+            match generates(name_text, size_text, times_text) {
+                Some(job) => Some(job),
+                None => tests(name_text, size_text, times_text),
+            }
+        }
+        _ => None,
+    }
 }

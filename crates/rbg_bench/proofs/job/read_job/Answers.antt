@@ -1,28 +1,29 @@
-use Rattle.std.proofs.Common.{◌≡◌, ◌≤◌, ℕ, Some, None, refl, sym, ◌∙◌, ap, arith}
-use Rattle.std.specs.Prelude.{Option, unwrap_or, string_bytes}
-use Rattle.rbg_bench.proofs.Three.{second, third}
+use Rattle.std.proofs.Common.{ap, ◌∙◌, ◌∷◌, [], sym}
+use Rattle.std.specs.Prelude.{string_bytes}
+use Rattle.rbg_bench.proofs.Asking.{two, three, two_refused, three_refused}
 use Rattle.rbg_bench.proofs.job.read_job.Goals as goal
 
-pub returns-in_err-bytes-clause-read : goal.returns-in_err-bytes-clause-read
-returns-in_err-bytes-clause-read c mechanism bytes times words most_bytes least most =
-    let word = ap string_bytes c.bytes-item.is ∙ second c.args.words.now c.bytes-item.result _ _ _ words in
-    let read = c.number.ensures.read bytes (omega arith) most_bytes (c.as_str-2.ensures.value ∙ word) in
-    absurd (let no : None ≡ Some bytes = sym c.in_err-bytes.was ∙ read in cc)
+pub returns-in-len2-clause-refused : goal.returns-in-len2-clause-refused
+returns-in-len2-clause-refused c =
+    let a = c.as_str.result.now in
+    let b = c.as_str-in-len2.result.now in
+    let words = two c.args.words.now c.name-item.result c.times-item.result c.in-len2.len_at_least c.in-len2.len_below c.name-item.is c.times-item.is in
+    two_refused _ a b c.repeats.result
+    (words ∙ (ap (λ v. v ∷ string_bytes c.times-item.result ∷ []) (sym c.as_str.ensures.value) ∙ ap (λ v. a ∷ v ∷ []) (sym c.as_str-in-len2.ensures.value)))
+    c.repeats.ensures.refused
 
-pub returns-in_err-times-clause-read : goal.returns-in_err-times-clause-read
-returns-in_err-times-clause-read c mechanism bytes times words most_bytes least most =
-    let word = ap string_bytes c.times-item.is ∙ third c.args.words.now c.times-item.result _ _ _ words in
-    let read = c.number-2.ensures.read times least most (c.as_str-3.ensures.value ∙ word) in
-    absurd (let no : None ≡ Some times = sym c.in_err-times.was ∙ read in cc)
-
-pub returns-clause-read : goal.returns-clause-read
-returns-clause-read c mechanism bytes times words most_bytes least most =
-    let bytes_word = ap string_bytes c.bytes-item.is ∙ second c.args.words.now c.bytes-item.result _ _ _ words in
-    let bytes_read = c.number.ensures.read bytes (omega arith) most_bytes (c.as_str-2.ensures.value ∙ bytes_word) in
-    let times_word = ap string_bytes c.times-item.is ∙ third c.args.words.now c.times-item.result _ _ _ words in
-    let times_read = c.number-2.ensures.read times least most (c.as_str-3.ensures.value ∙ times_word) in (
-      _,
-      refl,
-      ap (λ (o : Option ℕ). unwrap_or o 0) (sym c.in_ok-bytes.was ∙ bytes_read),
-      ap (λ (o : Option ℕ). unwrap_or o 0) (sym c.in_ok-times.was ∙ times_read),
-    )
+pub returns-in-None-clause-refused : goal.returns-in-None-clause-refused
+returns-in-None-clause-refused c =
+    let x = c.name-item-then-words-lt4.result in
+    let y = c.size-item.result in
+    let z = c.times-item-then-words-lt4.result in
+    let a = c.as_str-name_text.result.now in
+    let b = c.as_str-size_text.result.now in
+    let words =
+    three c.args.words.now x y z c.in-len3.len_at_least c.in-len3.len_below c.name-item-then-words-lt4.is c.size-item.is c.times-item-then-words-lt4.is in
+    three_refused _ a b c.as_str-times_text.result.now c.tests.result
+    (words
+    ∙ (ap (λ v. v ∷ string_bytes y ∷ string_bytes z ∷ []) (sym c.as_str-name_text.ensures.value)
+    ∙ (ap (λ v. a ∷ v ∷ string_bytes z ∷ []) (sym c.as_str-size_text.ensures.value)
+    ∙ ap (λ v. a ∷ b ∷ v ∷ []) (sym c.as_str-times_text.ensures.value))))
+    c.in-None.ensures.refused c.tests.ensures.refused

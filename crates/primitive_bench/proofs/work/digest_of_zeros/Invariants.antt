@@ -1,6 +1,0 @@
-use Rattle.std.proofs.Common.{◌*◌, replicate}
-use Rattle.sha2.specs.Hashers.{Holds256}
-use Rattle.primitive_bench.proofs.work.digest_of_zeros.Given as goal
-
-abbrev pub invariant-loop-i : goal.invariant-loop-i
-invariant-loop-i l = Holds256 l.digest (replicate (65536 * l.i) 0)

@@ -1,7 +1,0 @@
-use Rattle.std.proofs.Common.{◌≡◌}
-use Rattle.std.specs.Prelude.{replicate}
-use Rattle.primitive_bench.specs.Iterated.{iterated}
-use Rattle.primitive_bench.proofs.work.iterated.Given as goal
-
-abbrev pub invariant-loop-i : goal.invariant-loop-i
-invariant-loop-i l = l.block ≡ iterated l.aes l.i (replicate 16 0)
