@@ -6,7 +6,7 @@ use Rattle.std.proofs.lemmas.Bool.{ne_eqb, lt-leb}
 use Rattle.health_tests.specs.declared.windows.Test.{Test}
 use Rattle.health_tests.specs.declared.windows.Alarm.{Alarm}
 use Rattle.health_tests.specs.declared.numbers.Tail.{Tail}
-use Rattle.health_tests.specs.Cutoffs.{Limits, AreSound}
+use Rattle.health_tests.specs.Cutoffs.{Limits}
 use Rattle.health_tests.specs.Windows.{further, or_later}
 use Rattle.health_tests.specs.Numbers.{IsBelow, tail_step, tail_after, alarm_by, alarm_from}
 use Rattle.health_tests.specs.Blocks.{AllDiffer, GoesPast}
@@ -55,10 +55,10 @@ passed_is t s (r ∷ x) =
     ∙ ap (λ k. record { run = 1; place = k; equal = t.equal; last = slice_index (r ∷ x) (length x); first = t.first }) place
 
 -- a block that goes past raises no alarm, and leaves the numbers that its samples leave
-pub goes_past_means : (c : Limits) (t : Tail) (x : List ℕ) (n : Tail) → AreSound c → IsBelow c t → GoesPast c.window t x n
+pub goes_past_means : (c : Limits) (t : Tail) (x : List ℕ) (n : Tail) → IsBelow c t → GoesPast c t x n
     → (alarm_from c t x ≡ None) × (n ≡ tail_after c.window t x) × IsBelow c n
-goes_past_means c t [] n sound below past = let long = past.long in absurd (omega arith)
-goes_past_means c t (s ∷ x) n sound below past =
+goes_past_means c t [] n below past = let long = past.long in absurd (omega arith)
+goes_past_means c t (s ∷ x) n below past =
     let long = past.long in
     let fifteen : length x ≡ 15 = omega arith in
     let fits : t.place + length (s ∷ x) < c.window = omega (arith, past.within) in
@@ -66,9 +66,9 @@ goes_past_means c t (s ∷ x) n sound below past =
     let whole : ℕ → ℕ → Tail = λ p l. record { run = 1; place = p; equal = t.equal; last = l; first = t.first } in
     let is : passed t (s ∷ x) ≡ whole (t.place + 16) (slice_index (s ∷ x) 15) =
     passed_is t s x ∙ (ap (λ p. whole p (slice_index (s ∷ x) (length x))) place ∙ ap (λ k. whole (t.place + 16) (slice_index (s ∷ x) k)) fifteen) in (
-      no_alarm_passed c t (s ∷ x) sound.rct below.equal past.differ past.begun fits,
+      no_alarm_passed c t (s ∷ x) past.single below.equal past.differ past.begun fits,
       past.numbers ∙ sym (tail_passed c.window t (s ∷ x) past.differ past.begun fits ∙ is),
-      subst (λ m. IsBelow c m) (sym past.numbers) (record { run = omega (arith, sound.rct); equal = below.equal; place = past.within }),
+      subst (λ m. IsBelow c m) (sym past.numbers) (record { run = omega (arith, past.single); equal = below.equal; place = past.within }),
     )
 
 -- samples behind others

@@ -7,7 +7,7 @@ use Rattle.health_tests.specs.declared.windows.Test.{Test}
 use Rattle.health_tests.specs.declared.windows.Test.TheVariants.{Repetition, Proportion}
 use Rattle.health_tests.specs.declared.windows.Alarm.{Alarm}
 use Rattle.health_tests.specs.declared.numbers.Tail.{Tail}
-use Rattle.health_tests.specs.Cutoffs.{Limits, limits, AreSound}
+use Rattle.health_tests.specs.Cutoffs.{Limits, AreSound}
 use Rattle.health_tests.specs.Windows.{first_alarm, alarm_in, further, or_later, IsFirst}
 use Rattle.health_tests.specs.Numbers.{IsBelow, tail_of, no_tail, tail_step, tail_after, alarm_by, alarm_from}
 use Rattle.health_tests.specs.Stands.{Standing, StandsFor, StandsForSome, placed}
@@ -70,16 +70,12 @@ goes_on t x s h none = record {
 pub stands_fresh : (c : Limits) → StandsFor (record { cutoffs = c; tail = no_tail }) []
 stands_fresh c = record { quiet = refl; counted = sym (tail_begins c.window) }
 
-pub same_limits : (c : Limits) (r w a : ℕ) → r ≡ c.rct → w ≡ c.window → a ≡ c.apt → limits r w a ≡ c
-same_limits c r w a p q s = rw (p, q, s) refl
-
--- a call of the tests that stood before with the numbers t: it answered the sample s by the limits l, which are the cutoffs c, and
--- left the numbers n
-module _ (old : Standing) (c l : Limits) (t n : Tail) (s : ℕ) (answer : Option Test)
-    (is_old : record { cutoffs = c; tail = t } ≡ old) (is_limits : l ≡ c) (tells : answer ≡ alarm_by l (tail_step l.window t s))
-    (counts : IfNone answer (n ≡ tail_step l.window t s)) where
-  limits_are : l ≡ old.cutoffs
-  limits_are = is_limits ∙ ap (λ (o : Standing). o.cutoffs) is_old
+-- a call of the tests that stood before with the cutoffs c and the numbers t: it answered the sample s, and left the numbers n
+module _ (old : Standing) (c : Limits) (t n : Tail) (s : ℕ) (answer : Option Test)
+    (is_old : record { cutoffs = c; tail = t } ≡ old) (tells : answer ≡ alarm_by c (tail_step c.window t s))
+    (counts : IfNone answer (n ≡ tail_step c.window t s)) where
+  limits_are : c ≡ old.cutoffs
+  limits_are = ap (λ (o : Standing). o.cutoffs) is_old
 
   told : answer ≡ alarm_by old.cutoffs (tail_step old.cutoffs.window old.tail s)
   told = tells ∙ (ap (λ m. alarm_by m (tail_step m.window t s)) limits_are ∙ ap (λ (o : Standing). alarm_by old.cutoffs (tail_step old.cutoffs.window o.tail s)) is_old)
@@ -87,7 +83,7 @@ module _ (old : Standing) (c l : Limits) (t n : Tail) (s : ℕ) (answer : Option
   pub answered : (x : List ℕ) → StandsFor old x → first_alarm old.cutoffs (x ++ s ∷ []) ≡ placed (length x) answer
   answered x h = answers old x s h ∙ ap (placed (length x)) (sym told)
 
-  pub stood : answer ≡ None → n ≡ tail_step l.window t s → (x : List ℕ) → StandsFor old x → StandsFor (record { cutoffs = c; tail = n }) (x ++ s ∷ [])
+  pub stood : answer ≡ None → n ≡ tail_step c.window t s → (x : List ℕ) → StandsFor old x → StandsFor (record { cutoffs = c; tail = n }) (x ++ s ∷ [])
   stood none numbers x h =
       let whole : Limits → Tail → Standing = λ m k. record { cutoffs = m; tail = k } in
       let cutoffs : old.cutoffs ≡ c = sym (ap (λ (o : Standing). o.cutoffs) is_old) in
@@ -97,14 +93,14 @@ module _ (old : Standing) (c l : Limits) (t n : Tail) (s : ℕ) (answer : Option
 
   pub stood_if : IfNone answer ((x : List ℕ) → StandsFor old x → StandsFor (record { cutoffs = c; tail = n }) (x ++ s ∷ []))
   stood_if = by answer refl counts where
-    by : (o : Option Test) → answer ≡ o → IfNone o (n ≡ tail_step l.window t s)
+    by : (o : Option Test) → answer ≡ o → IfNone o (n ≡ tail_step c.window t s)
         → IfNone o ((x : List ℕ) → StandsFor old x → StandsFor (record { cutoffs = c; tail = n }) (x ++ s ∷ []))
     by None e m = stood e m
     by (Some test) e m = tt
 
   pub still_stands : OnSome answer (n ≡ t) → StandsForSome (record { cutoffs = c; tail = t }) → StandsForSome (record { cutoffs = c; tail = n })
   still_stands kept (x, stands) = by answer refl counts kept where
-    by : (o : Option Test) → answer ≡ o → IfNone o (n ≡ tail_step l.window t s) → OnSome o (n ≡ t) → StandsForSome (record { cutoffs = c; tail = n })
+    by : (o : Option Test) → answer ≡ o → IfNone o (n ≡ tail_step c.window t s) → OnSome o (n ≡ t) → StandsForSome (record { cutoffs = c; tail = n })
     by None e m k = (x ++ s ∷ [], stood e m x (subst (λ v. StandsFor v x) is_old stands))
     by (Some test) e m k = (x, subst (λ m. StandsFor (record { cutoffs = c; tail = m }) x) (sym k) stands)
 
@@ -113,30 +109,28 @@ none_from None b h e = refl
 none_from (Some x) b h e = let no : not b ≡ false = ap not e in cc
 
 -- the same for the samples y
-module _ (old : Standing) (c l : Limits) (t n : Tail) (y : List ℕ) (answer : Option Alarm)
-    (is_old : record { cutoffs = c; tail = t } ≡ old) (is_limits : l ≡ c) (tells : answer ≡ alarm_from l t y)
-    (counts : IfNone answer (n ≡ tail_after l.window t y)) where
+module _ (old : Standing) (c : Limits) (t n : Tail) (y : List ℕ) (answer : Option Alarm)
+    (is_old : record { cutoffs = c; tail = t } ≡ old) (tells : answer ≡ alarm_from c t y)
+    (counts : IfNone answer (n ≡ tail_after c.window t y)) where
   pub answered_all : (x : List ℕ) → StandsFor old x → alarm_in old.cutoffs x y ≡ answer
   answered_all x h =
       sym (alarm_tells old.cutoffs x y)
       ∙ (ap (λ m. alarm_from old.cutoffs m y) (sym h.counted)
-      ∙ (ap (λ (o : Standing). alarm_from o.cutoffs o.tail y) (sym is_old)
-      ∙ (ap (λ m. alarm_from m t y) (sym is_limits) ∙ sym tells)))
+      ∙ (ap (λ (o : Standing). alarm_from o.cutoffs o.tail y) (sym is_old) ∙ sym tells))
 
-  pub stood_all : answer ≡ None → n ≡ tail_after l.window t y → (x : List ℕ) → StandsFor old x → StandsFor (record { cutoffs = c; tail = n }) (x ++ y)
+  pub stood_all : answer ≡ None → n ≡ tail_after c.window t y → (x : List ℕ) → StandsFor old x → StandsFor (record { cutoffs = c; tail = n }) (x ++ y)
   stood_all none numbers x h =
       let stands = subst (λ v. StandsFor v x) (sym is_old) h in
       let cutoffs : c ≡ old.cutoffs = ap (λ (o : Standing). o.cutoffs) is_old in
       record {
         quiet = first_later c x y stands.quiet ∙ ap (further (length x)) (ap (λ m. alarm_in m x y) cutoffs ∙ (answered_all x h ∙ none));
         counted =
-            numbers ∙ (ap (λ (m : Limits). tail_after m.window t y) is_limits
-            ∙ (ap (λ m. tail_after c.window m y) stands.counted ∙ tail_grows c.window x y));
+            numbers ∙ (ap (λ m. tail_after c.window m y) stands.counted ∙ tail_grows c.window x y);
       }
 
   pub stood_all_if : IfNone answer ((x : List ℕ) → StandsFor old x → StandsFor (record { cutoffs = c; tail = n }) (x ++ y))
   stood_all_if = by answer refl counts where
-    by : (o : Option Alarm) → answer ≡ o → IfNone o (n ≡ tail_after l.window t y)
+    by : (o : Option Alarm) → answer ≡ o → IfNone o (n ≡ tail_after c.window t y)
         → IfNone o ((x : List ℕ) → StandsFor old x → StandsFor (record { cutoffs = c; tail = n }) (x ++ y))
     by None e m = stood_all e m
     by (Some alarm) e m = tt

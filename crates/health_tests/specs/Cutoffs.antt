@@ -10,10 +10,6 @@ pub record Limits : Type 0 where
   pub window : ℕ
   pub apt : ℕ
 
--- three numbers as limits
-abbrev pub limits : ℕ → ℕ → ℕ → Limits
-limits rct window apt = record { rct = rct; window = window; apt = apt }
-
 -- the first number that is refused, in the order of the repetition cutoff, the window, the proportion cutoff
 abbrev pub refused : ℕ → ℕ → ℕ → Option BadCutoff
 refused rct window apt =

@@ -58,9 +58,9 @@ impl Tests {
 
         ensures stands { StandsForSome self.new }
     {
-        let cutoffs = self.cutoffs;
-        self.tail
-            .add(cutoffs.rct(), cutoffs.window(), cutoffs.apt(), sample)
+        // For its clause alone.
+        self.cutoffs.are_sound();
+        self.tail.add(self.cutoffs, sample)
     }
 
     /// The first alarm among samples that follow, if there is one, with its place among them, counted from 0: what `step` says
@@ -81,9 +81,10 @@ impl Tests {
 
         ensures stands { StandsForSome self.new }
     {
-        let cutoffs = self.cutoffs;
+        // For its clause alone.
+        self.cutoffs.are_sound();
         let mut next = self.tail;
-        let answer = next.go_on(cutoffs.rct(), cutoffs.window(), cutoffs.apt(), samples);
+        let answer = next.go_on(self.cutoffs, samples);
         if answer.is_none() {
             self.tail = next;
         }

@@ -68,7 +68,16 @@ impl Cutoffs {
         Ok(Cutoffs { rct, window, apt })
     }
 
+    // That the cutoffs are those that `new` accepts. It is called for this clause alone.
+    #[inline]
+    pub(crate) fn are_sound(&self)
+        ensures { AreSound self.now }
+    {
+        let _ = &self.rct;
+    }
+
     /// The length of a run of equal samples that alarms.
+    #[inline]
     pub fn rct(&self) -> u32
         ensures value { result ≡ self.now.rct }
         ensures sound { AreSound self.now }
@@ -77,6 +86,7 @@ impl Cutoffs {
     }
 
     /// The length of a window, 512 or 1024.
+    #[inline]
     pub fn window(&self) -> u16
         ensures value { result ≡ self.now.window }
         ensures range { (512 ≤ result) × (result ≤ 1024) }
@@ -86,6 +96,7 @@ impl Cutoffs {
     }
 
     /// How many samples of a window equal to its first alarm, the first included.
+    #[inline]
     pub fn apt(&self) -> u16
         ensures value { result ≡ self.now.apt }
         ensures sound { AreSound self.now }

@@ -2,7 +2,7 @@
 ghost use Rattle.std.specs.Prelude.{◌≡◌, ◌<◌, ◌-◌, ◌^◌, true, false, length, IfSome, IfNone, OnSome};
 ghost use Rattle.health_tests.specs.Blocks.{AllDiffer};
 
-use crate::{Alarm, Test};
+use crate::{Alarm, Cutoffs, Test};
 
 // How many samples are looked at side by side.
 const BLOCK: usize = 16;
@@ -19,7 +19,6 @@ pub struct Tail {
 }
 
 impl Tail {
-    ghost use Rattle.health_tests.specs.Cutoffs.{AreSound, limits};
     ghost use Rattle.health_tests.specs.Blocks.{GoesPast};
     ghost use Rattle.health_tests.specs.Numbers.{IsBelow, tail_step, tail_after, alarm_by, alarm_from};
 
@@ -34,17 +33,16 @@ impl Tail {
 
     /// The numbers with samples added, up to the first alarm among them.
     #[inline]
-    pub fn go_on(&mut self, rct: u32, window: u16, apt: u16, samples: &[u8]) -> Option<Alarm>
-        requires sound { AreSound (limits rct window apt) }
-        requires below { IsBelow (limits rct window apt) self.old }
-        ensures answer { result ≡ alarm_from (limits rct window apt) self.old samples.now }
+    pub fn go_on(&mut self, cutoffs: Cutoffs, samples: &[u8]) -> Option<Alarm>
+        requires below { IsBelow cutoffs self.old }
+        ensures answer { result ≡ alarm_from cutoffs self.old samples.now }
         ensures place { IfSome result (λ alarm. alarm.at < length samples.now) }
-        ensures numbers { IfNone result (self.new ≡ tail_after window self.old samples.now) }
+        ensures numbers { IfNone result (self.new ≡ tail_after cutoffs.window self.old samples.now) }
     {
         let blocks = samples.len() / BLOCK;
         for i in 0..blocks {
             let at = i * BLOCK;
-            if let Some(alarm) = self.add_block(rct, window, apt, &samples[at..at + BLOCK]) {
+            if let Some(alarm) = self.add_block(cutoffs, &samples[at..at + BLOCK]) {
                 return Some(Alarm {
                     at: at + alarm.at,
                     test: alarm.test,
@@ -52,7 +50,7 @@ impl Tail {
             }
         }
         let at = blocks * BLOCK;
-        match self.add_each(rct, window, apt, &samples[at..]) {
+        match self.add_each(cutoffs, &samples[at..]) {
             Some(alarm) => Some(Alarm {
                 at: at + alarm.at,
                 test: alarm.test,
@@ -63,33 +61,32 @@ impl Tail {
 
     // Adds the samples of a block, up to the first alarm among them.
     #[inline]
-    fn add_block(&mut self, rct: u32, window: u16, apt: u16, samples: &[u8]) -> Option<Alarm>
+    fn add_block(&mut self, cutoffs: Cutoffs, samples: &[u8]) -> Option<Alarm>
         requires length { length samples.now ≡ 16 }
-        requires sound { AreSound (limits rct window apt) }
-        requires below { IsBelow (limits rct window apt) self.old }
-        ensures answer { result ≡ alarm_from (limits rct window apt) self.old samples.now }
+        requires below { IsBelow cutoffs self.old }
+        ensures answer { result ≡ alarm_from cutoffs self.old samples.now }
         ensures place { IfSome result (λ alarm. alarm.at < length samples.now) }
-        ensures numbers { IfNone result (self.new ≡ tail_after window self.old samples.now) }
-        ensures below { IfNone result (IsBelow (limits rct window apt) self.new) }
+        ensures numbers { IfNone result (self.new ≡ tail_after cutoffs.window self.old samples.now) }
+        ensures below { IfNone result (IsBelow cutoffs self.new) }
     {
-        if self.goes_past(window, samples) {
+        if self.goes_past(cutoffs, samples) {
             return None;
         }
-        self.add_each(rct, window, apt, samples)
+        self.add_each(cutoffs, samples)
     }
 
     // Adds a whole block within a window, where no sample of it is like the one before it or like the window's first. Then none
     // can alarm, and the numbers need only its last. Nearly all blocks are such; the comparisons are made side by side.
     #[inline]
-    fn goes_past(&mut self, window: u16, samples: &[u8]) -> bool
+    fn goes_past(&mut self, cutoffs: Cutoffs, samples: &[u8]) -> bool
         requires length { length samples.now ≡ 16 }
         requires place { self.old.place < 2 ^ 16 }
-        ensures past { result ≡ true → GoesPast window self.old samples.now self.new }
+        ensures past { result ≡ true → GoesPast cutoffs self.old samples.now self.new }
         ensures kept { result ≡ false → self.new ≡ self.old }
     {
         let place = self.place + BLOCK as u32;
         if self.place == 0
-            || place >= u32::from(window)
+            || place >= u32::from(cutoffs.window())
             || is_like(self.last, self.first, samples)
         {
             return false;
@@ -102,35 +99,33 @@ impl Tail {
 
     // Adds samples one by one, up to the first alarm among them.
     #[inline]
-    fn add_each(&mut self, rct: u32, window: u16, apt: u16, samples: &[u8]) -> Option<Alarm>
-        requires sound { AreSound (limits rct window apt) }
-        requires below { IsBelow (limits rct window apt) self.old }
-        ensures answer { result ≡ alarm_from (limits rct window apt) self.old samples.now }
+    fn add_each(&mut self, cutoffs: Cutoffs, samples: &[u8]) -> Option<Alarm>
+        requires below { IsBelow cutoffs self.old }
+        ensures answer { result ≡ alarm_from cutoffs self.old samples.now }
         ensures place { IfSome result (λ alarm. alarm.at < length samples.now) }
-        ensures numbers { IfNone result (self.new ≡ tail_after window self.old samples.now) }
-        ensures below { IfNone result (IsBelow (limits rct window apt) self.new) }
+        ensures numbers { IfNone result (self.new ≡ tail_after cutoffs.window self.old samples.now) }
+        ensures below { IfNone result (IsBelow cutoffs self.new) }
     {
         for at in 0..samples.len() {
-            if let Some(test) = self.count(rct, window, apt, samples[at]) {
+            if let Some(test) = self.count(cutoffs, samples[at]) {
                 return Some(Alarm { at, test });
             }
         }
         None
     }
 
-    // One sample more, unless it alarms, by what the sample is like. It is for samples in a row of which one or more is not usual,
-    // where `add` would go out of its way too often.
+    // One sample more, unless it alarms, by what the sample is like. `add` says the same by another body, since each is the faster one
+    // where it stands (bench/health): one sample a call takes 1.20 times as long by this one, and a slice 1.27 times as long by that one.
     #[inline]
-    fn count(&mut self, rct: u32, window: u16, apt: u16, sample: u8) -> Option<Test>
-        requires sound { AreSound (limits rct window apt) }
-        requires below { IsBelow (limits rct window apt) self.old }
-        ensures answer { result ≡ alarm_by (limits rct window apt) (tail_step window self.old sample) }
-        ensures numbers { IfNone result (self.new ≡ tail_step window self.old sample) }
+    fn count(&mut self, cutoffs: Cutoffs, sample: u8) -> Option<Test>
+        requires below { IsBelow cutoffs self.old }
+        ensures answer { result ≡ alarm_by cutoffs (tail_step cutoffs.window self.old sample) }
+        ensures numbers { IfNone result (self.new ≡ tail_step cutoffs.window self.old sample) }
     {
         let mut run = 1;
         if sample == self.last {
             run += self.run;
-            if run >= rct {
+            if run >= cutoffs.rct() {
                 return Some(Test::Repetition);
             }
         }
@@ -139,7 +134,7 @@ impl Tail {
             self.equal = 1;
         } else if sample == self.first {
             let equal = self.equal + 1;
-            if equal >= apt {
+            if equal >= cutoffs.apt() {
                 return Some(Test::Proportion);
             }
             self.equal = equal;
@@ -147,7 +142,7 @@ impl Tail {
         self.run = run;
         self.last = sample;
         self.place += 1;
-        if self.place == u32::from(window) {
+        if self.place == u32::from(cutoffs.window()) {
             self.place = 0;
         }
         None
@@ -156,24 +151,23 @@ impl Tail {
     /// One sample more, unless it alarms. The usual sample lies within its window, and is like neither the last one nor the
     /// window's first: then neither test can alarm, and three comparisons are all that it takes.
     #[inline]
-    pub fn add(&mut self, rct: u32, window: u16, apt: u16, sample: u8) -> Option<Test>
-        requires sound { AreSound (limits rct window apt) }
-        requires below { IsBelow (limits rct window apt) self.old }
-        ensures answer { result ≡ alarm_by (limits rct window apt) (tail_step window self.old sample) }
-        ensures numbers { IfNone result (self.new ≡ tail_step window self.old sample) }
+    pub fn add(&mut self, cutoffs: Cutoffs, sample: u8) -> Option<Test>
+        requires below { IsBelow cutoffs self.old }
+        ensures answer { result ≡ alarm_by cutoffs (tail_step cutoffs.window self.old sample) }
+        ensures numbers { IfNone result (self.new ≡ tail_step cutoffs.window self.old sample) }
         ensures alarmed { OnSome result (self.new ≡ self.old) }
     {
         if sample != self.last
             && sample != self.first
-            && self.place.wrapping_sub(1) < u32::from(window) - 2
+            && self.place.wrapping_sub(1) < u32::from(cutoffs.window()) - 2
         {
             self.run = 1;
             self.last = sample;
             self.place += 1;
             return None;
         }
-        let next = self.with(window, sample);
-        let alarm = next.alarm(rct, apt);
+        let next = self.with(cutoffs.window(), sample);
+        let alarm = next.alarm(cutoffs);
         if alarm.is_none() {
             *self = next;
         }
@@ -206,14 +200,14 @@ impl Tail {
         next
     }
 
-    // The alarm at the last sample, in which the length of the window has no part.
+    // The alarm at the last sample.
     #[inline]
-    fn alarm(self, rct: u32, apt: u16) -> Option<Test>
-        ensures { result ≡ alarm_by (limits rct 0 apt) self }
+    fn alarm(self, cutoffs: Cutoffs) -> Option<Test>
+        ensures { result ≡ alarm_by cutoffs self }
     {
-        if self.run >= rct {
+        if self.run >= cutoffs.rct() {
             Some(Test::Repetition)
-        } else if self.equal >= apt {
+        } else if self.equal >= cutoffs.apt() {
             Some(Test::Proportion)
         } else {
             None

@@ -19,6 +19,7 @@ fn by_step(cutoffs: Cutoffs, samples: &[u8]) -> Option<Alarm>
     ensures alarm { result ≡ first_alarm cutoffs samples.now }
     ensures place { IfSome result (λ alarm. alarm.at < length samples.now) }
 {
+    // For its clause alone.
     first_alarm_goes_on();
     let mut tests = Tests::fresh(cutoffs);
     for at in 0..samples.len() {
