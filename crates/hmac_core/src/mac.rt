@@ -34,7 +34,7 @@ fn xored(pad: u8, block: &[u8; MAX_BLOCK]) -> [u8; MAX_BLOCK]
 }
 
 /// HMAC of a key and of a text that comes piece by piece (FIPS 198-1). It keeps the two hash states after the padded key, so
-/// that one `Mac` computes many texts under a key that was set up once.
+/// that `finish_with` serves many texts under a key that was set up once: each is the text so far with other bytes behind it.
 #[derive(Drop)]
 pub struct Mac {
     states: States,

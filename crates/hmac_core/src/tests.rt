@@ -1,17 +1,6 @@
 // Published values, which say that the definitions are the standard's.
 use crate::{Hash, Mac};
-use std::alloc::{AllocError, Global};
 use std::test::Fail;
-
-// The bytes in hexadecimal.
-fn hex_of(alloc: Global, bytes: &[u8]) -> Result<String, AllocError> {
-    let mut text = String::new(alloc);
-    for byte in bytes {
-        let digits = format!(in alloc; "{byte:02x}")?;
-        text.push_str(digits.as_str())?;
-    }
-    Ok(text)
-}
 
 #[test]
 fn gives_published_values(rt: HostRuntime) -> Result<(), Fail> {
@@ -20,7 +9,7 @@ fn gives_published_values(rt: HostRuntime) -> Result<(), Fail> {
     mac.update(b"Hi ");
     mac.update(b"There");
     assert_eq!(rt;
-        hex_of(rt.alloc(), mac.finish().as_slice())?.as_str(),
+        hex::encode(rt.alloc(), mac.finish().as_slice())?.as_str(),
         "b0344c61d8db38535ca8afceaf0bf12b881dc200c9833da726e9376c2e32cff7"
     );
     // A key of 129 bytes, one more than a block. Computed by another implementation.
@@ -34,11 +23,11 @@ fn gives_published_values(rt: HostRuntime) -> Result<(), Fail> {
     let mut copied = keyed.copy();
     copied.update(b"abc");
     assert_eq!(rt;
-        hex_of(rt.alloc(), keyed.finish_with(b"abc").as_slice())?.as_str(),
+        hex::encode(rt.alloc(), keyed.finish_with(b"abc").as_slice())?.as_str(),
         want
     );
     assert_eq!(rt;
-        hex_of(rt.alloc(), copied.finish().as_slice())?.as_str(),
+        hex::encode(rt.alloc(), copied.finish().as_slice())?.as_str(),
         want
     );
     Ok(())
