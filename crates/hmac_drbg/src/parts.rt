@@ -1,5 +1,5 @@
-// Provided data in three parts, which is nowhere joined, and blocks put in their places.
-ghost use Rattle.std.specs.Prelude.{◌≡◌, ◌≤◌, ◌<◌, ◌+◌, ◌-◌, ◌↔◌, ◌∷◌, ◌++◌, [], ℕ, List, length, take, IsTrue};
+// Provided data in three parts, which is nowhere joined.
+ghost use Rattle.std.specs.Prelude.{◌≡◌, ◌<◌, ◌↔◌, ◌∷◌, ◌++◌, [], ℕ, List, length, IsTrue};
 ghost use Rattle.hmac_core.specs.declared.hash.Hash.{Hash};
 ghost use Rattle.hmac_core.specs.Hmac.{hmac};
 ghost use Rattle.hmac_core.specs.Holds.{HoldsText};
@@ -25,15 +25,6 @@ pub fn mac_of_parts(
     keyed.update(second);
     keyed.update(third);
     keyed.finish()
-}
-
-// Puts as many bytes of the block as there is room for at a place.
-pub fn put_block(out: &mut [u8], at: usize, block: &[u8])
-    requires { at ≤ length out.old }
-    ensures { take (at + length block.now) out.new ≡ take at out.old ++ take (length out.old - at) block.now }
-{
-    let count = block.len().min(out.len() - at);
-    out[at..at + count].copy_from_slice(&block[..count]);
 }
 
 // Whether there is a byte in any of three parts.

@@ -6,9 +6,9 @@ ghost use Rattle.hmac_core.specs.Holds.{HoldsText};
 ghost use Rattle.hmac_drbg.specs.HmacDrbg.{half_update, update, instantiated, reseeded, with_additional, generated, after_generate, turned, gathered, blocks_for};
 ghost use Rattle.hmac_drbg.specs.State.{working, IsWellFormed};
 
-use crate::parts::{is_any, mac_of_parts, put_block};
+use crate::parts::{is_any, mac_of_parts};
 use hmac_core::{Hash, Mac};
-use rbg_bytes::Fixed;
+use rbg_bytes::{Fixed, put_fitting};
 
 /// The working state Key and V, each as long as a digest, with its hash function and its reseed counter, which is one more
 /// than the number of generates since the last seeding (SP 800-90A Rev. 1, 10.1.2.1).
@@ -149,7 +149,7 @@ impl HmacDrbg {
         ensures state { self.new ≡ record self.old { v = hmac self.old.hash self.old.k self.old.v } }
     {
         self.v = keyed.finish_with(self.v.as_slice());
-        put_block(out, at, self.v.as_slice());
+        put_fitting(out, at, self.v.as_slice());
     }
 
     // The update with provided data in three parts, under the key set up. It gives the new key set up.

@@ -1,26 +1,16 @@
 // Values computed by another implementation, which say that the definitions are the standard's.
 use crate::{Hash, HmacDrbg, ReseedRequired};
-use std::alloc::{AllocError, Global};
 use std::test::Fail;
 
-// The bytes in hexadecimal.
-fn hex_of(alloc: Global, bytes: &[u8]) -> Result<String, AllocError> {
-    let mut text = String::new(alloc);
-    for byte in bytes {
-        let digits = format!(in alloc; "{byte:02x}")?;
-        text.push_str(digits.as_str())?;
-    }
-    Ok(text)
-}
-
-// The 32 bytes that count up from a first one.
-fn counting_from(first: u8) -> [u8; 32] {
-    let mut bytes = [0u8; 32];
-    for i in 0..32u8 {
-        bytes[i as usize] = first.wrapping_add(i);
-    }
-    bytes
-}
+// The bytes that count up from 0.
+const COUNTING: [u8; 96] = [
+    0x00, 0x01, 0x02, 0x03, 0x04, 0x05, 0x06, 0x07, 0x08, 0x09, 0x0a, 0x0b, 0x0c, 0x0d, 0x0e, 0x0f,
+    0x10, 0x11, 0x12, 0x13, 0x14, 0x15, 0x16, 0x17, 0x18, 0x19, 0x1a, 0x1b, 0x1c, 0x1d, 0x1e, 0x1f,
+    0x20, 0x21, 0x22, 0x23, 0x24, 0x25, 0x26, 0x27, 0x28, 0x29, 0x2a, 0x2b, 0x2c, 0x2d, 0x2e, 0x2f,
+    0x30, 0x31, 0x32, 0x33, 0x34, 0x35, 0x36, 0x37, 0x38, 0x39, 0x3a, 0x3b, 0x3c, 0x3d, 0x3e, 0x3f,
+    0x40, 0x41, 0x42, 0x43, 0x44, 0x45, 0x46, 0x47, 0x48, 0x49, 0x4a, 0x4b, 0x4c, 0x4d, 0x4e, 0x4f,
+    0x50, 0x51, 0x52, 0x53, 0x54, 0x55, 0x56, 0x57, 0x58, 0x59, 0x5a, 0x5b, 0x5c, 0x5d, 0x5e, 0x5f,
+];
 
 // The answer to a generate of 32 bytes and one more, a reseed, and a generate with additional input, with K and V after it.
 struct Row {
@@ -79,29 +69,24 @@ const ROWS: [Row; 6] = [
 #[test]
 fn answers_as_another_implementation_under_each_hash(rt: HostRuntime) -> Result<(), Fail> {
     for row in &ROWS {
-        let mut drbg = HmacDrbg::instantiate(
-            row.hash,
-            &counting_from(0),
-            &counting_from(32)[..16],
-            &[],
-        );
+        let mut drbg = HmacDrbg::instantiate(row.hash, &COUNTING[..32], &COUNTING[32..48], &[]);
         assert_eq!(rt; drbg.counter, 1);
         let mut bytes = [0u8; 32];
         assert_eq!(rt; drbg.generate(&[], 1, &mut bytes), Ok(()));
-        assert_eq!(rt; hex_of(rt.alloc(), &bytes)?.as_str(), row.first);
+        assert_eq!(rt; hex::encode(rt.alloc(), &bytes)?.as_str(), row.first);
         assert_eq!(rt; drbg.counter, 2);
         // A second generate is above the interval, and leaves all as it was.
         let mut untouched = [7u8; 32];
         let refused = drbg.generate(&[], 1, &mut untouched);
         assert_eq!(rt; refused, Err(ReseedRequired { counter: 2 }));
         assert_eq!(rt; untouched, [7u8; 32]);
-        drbg.reseed(&counting_from(64), &[0xaa]);
+        drbg.reseed(&COUNTING[64..], &[0xaa]);
         assert_eq!(rt; drbg.counter, 1);
         assert_eq!(rt; drbg.generate(&[0xbb, 0xcc], 1, &mut bytes), Ok(()));
         assert_eq!(rt; drbg.counter, 2);
-        assert_eq!(rt; hex_of(rt.alloc(), &bytes)?.as_str(), row.second);
-        assert_eq!(rt; hex_of(rt.alloc(), drbg.k.as_slice())?.as_str(), row.k);
-        assert_eq!(rt; hex_of(rt.alloc(), drbg.v.as_slice())?.as_str(), row.v);
+        assert_eq!(rt; hex::encode(rt.alloc(), &bytes)?.as_str(), row.second);
+        assert_eq!(rt; hex::encode(rt.alloc(), drbg.k.as_slice())?.as_str(), row.k);
+        assert_eq!(rt; hex::encode(rt.alloc(), drbg.v.as_slice())?.as_str(), row.v);
     }
     Ok(())
 }
