@@ -1,28 +1,18 @@
 // Values computed by another implementation, which say that the kinds are what their names say.
 use crate::{Drbg, ReseedRequired};
 use rbg_bytes::Kind;
-use std::alloc::{AllocError, Global};
 use std::process::Abort;
 use std::test::Fail;
 
-// The bytes in hexadecimal.
-fn hex_of(alloc: Global, bytes: &[u8]) -> Result<String, AllocError> {
-    let mut text = String::new(alloc);
-    for byte in bytes {
-        let digits = format!(in alloc; "{byte:02x}")?;
-        text.push_str(digits.as_str())?;
-    }
-    Ok(text)
-}
-
-// The 32 bytes that count up from a first one.
-fn counting_from(first: u8) -> [u8; 32] {
-    let mut bytes = [0u8; 32];
-    for i in 0..32u8 {
-        bytes[i as usize] = first.wrapping_add(i);
-    }
-    bytes
-}
+// The bytes that count up from 0.
+const COUNTING: [u8; 96] = [
+    0x00, 0x01, 0x02, 0x03, 0x04, 0x05, 0x06, 0x07, 0x08, 0x09, 0x0a, 0x0b, 0x0c, 0x0d, 0x0e, 0x0f,
+    0x10, 0x11, 0x12, 0x13, 0x14, 0x15, 0x16, 0x17, 0x18, 0x19, 0x1a, 0x1b, 0x1c, 0x1d, 0x1e, 0x1f,
+    0x20, 0x21, 0x22, 0x23, 0x24, 0x25, 0x26, 0x27, 0x28, 0x29, 0x2a, 0x2b, 0x2c, 0x2d, 0x2e, 0x2f,
+    0x30, 0x31, 0x32, 0x33, 0x34, 0x35, 0x36, 0x37, 0x38, 0x39, 0x3a, 0x3b, 0x3c, 0x3d, 0x3e, 0x3f,
+    0x40, 0x41, 0x42, 0x43, 0x44, 0x45, 0x46, 0x47, 0x48, 0x49, 0x4a, 0x4b, 0x4c, 0x4d, 0x4e, 0x4f,
+    0x50, 0x51, 0x52, 0x53, 0x54, 0x55, 0x56, 0x57, 0x58, 0x59, 0x5a, 0x5b, 0x5c, 0x5d, 0x5e, 0x5f,
+];
 
 const ROWS: [(Kind, &str); 6] = [
     (
@@ -55,15 +45,10 @@ const ROWS: [(Kind, &str); 6] = [
 fn generates_afresh_as_another_implementation(rt: HostRuntime) -> Result<(), Fail> {
     for row in &ROWS {
         let (kind, want) = *row;
-        let mut drbg = Drbg::instantiate(
-            kind,
-            &counting_from(0),
-            &counting_from(32)[..16],
-            &[0x70, 0x71],
-        );
+        let mut drbg = Drbg::instantiate(kind, &COUNTING[..32], &COUNTING[32..48], &[0x70, 0x71]);
         let mut bytes = [0u8; 40];
-        drbg.generate_fresh(&counting_from(64), &[0xaa], &mut bytes);
-        assert_eq!(rt; hex_of(rt.alloc(), &bytes)?.as_str(), want);
+        drbg.generate_fresh(&COUNTING[64..], &[0xaa], &mut bytes);
+        assert_eq!(rt; hex::encode(rt.alloc(), &bytes)?.as_str(), want);
         assert_eq!(rt; drbg.counter(), 2);
     }
     Ok(())
@@ -76,7 +61,7 @@ fn is_due_above_the_interval_alone(rt: HostRuntime) -> Result<(), Fail> {
 }
 
 fn check_due(rt: &impl Abort, kind: Kind) -> Result<(), Fail> {
-    let mut drbg = Drbg::instantiate(kind, &counting_from(0), &counting_from(32), &[]);
+    let mut drbg = Drbg::instantiate(kind, &COUNTING[..32], &COUNTING[32..64], &[]);
     let mut bytes = [0u8; 16];
     assert_eq!(rt; (drbg.counter(), drbg.due(1)), (1, false));
     assert_eq!(rt; drbg.generate(&[0xaa], 1, &mut bytes), Ok(()));
@@ -88,7 +73,7 @@ fn check_due(rt: &impl Abort, kind: Kind) -> Result<(), Fail> {
         drbg.generate(&[0xaa], 1, &mut bytes),
         Err(ReseedRequired { counter: 2 })
     );
-    drbg.reseed(&counting_from(64), &[]);
+    drbg.reseed(&COUNTING[64..], &[]);
     assert_eq!(rt; (drbg.counter(), drbg.due(1)), (1, false));
     Ok(())
 }
