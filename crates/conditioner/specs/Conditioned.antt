@@ -1,5 +1,5 @@
 -- The conditioning components: the length of a block, the samples that it takes, and the block as a function of them.
--- SP 800-90B 3.1.5.1.1 and 3.1.5.1.2; the lengths, the number of samples and HMAC's key are this project's own choice.
+-- SP 800-90B 3.1.5.1.1 (the vetted components); the lengths, the number of samples and HMAC's key are this project's own choice.
 use Rattle.std.specs.Prelude.{ℕ, ◌+◌, ◌*◌, List}
 use Rattle.std.specs.List.{range_with_len}
 use Rattle.std.specs.Int.{div_ceil}

@@ -18,7 +18,8 @@ enum Component {
     OfDf(Df),
 }
 
-/// The conditioned block of samples that come in pieces of any length (SP 800-90B 3.1.5). It takes no memory of its own.
+/// The conditioned block of samples that come in pieces of any length, by one of the vetted components of SP 800-90B 3.1.5.1.1:
+/// HMAC over SHA-256, or Block_Cipher_df with AES-256. It takes no memory of its own.
 #[derive(Drop)]
 pub struct Block {
     component: Component,

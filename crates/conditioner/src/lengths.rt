@@ -16,8 +16,8 @@ pub fn block_len(cond: Cond) -> usize
     }
 }
 
-/// The samples that a block takes, for samples of `num / den` bits of min-entropy each (SP 800-90B 3.1.5.1.2): as few as have
-/// 64 bits more than the block has.
+/// The samples that a block takes, for samples of `num / den` bits of min-entropy each: as few as have 64 bits more than the
+/// block has. The number is this project's own; the entropy of a block is not assessed (SP 800-90B 3.1.5.1.2).
 pub fn need(cond: Cond, num: u32, den: u32) -> u32
     requires num_low { 1 ≤ num }
     requires num_high { num ≤ 8000 }
