@@ -1,5 +1,6 @@
 -- Plans whose rows are in range: what the layers above may rely on, of what was read and of the stock plan.
--- This project's own; min-entropy is in bits a sample, as in SP 800-90B, and the interval is that of SP 800-90A Rev. 1, table 2.
+-- This project's own; min-entropy is in bits a sample, as in SP 800-90B, and the interval is that of
+-- SP 800-90A Rev. 1, tables 2 (hash-based mechanisms) and 3 (CTR_DRBG).
 use Rattle.std.specs.Prelude.{◌≡◌, ℕ, ◌*◌, ◌^◌, ◌<◌, ◌≤◌, length, slice_get, Some}
 use Rattle.health_tests.specs.Cutoffs.{AreSound}
 use Rattle.tree_config.specs.declared.plan.NodeKind.{NodeKind}

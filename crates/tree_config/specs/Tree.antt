@@ -1,5 +1,5 @@
 -- The plan of a configuration, or its first fault.
--- This project's own; the strength of a kind is that of SP 800-90A Rev. 1, table 2.
+-- This project's own; the strength of a kind is that of SP 800-90A Rev. 1, tables 2 (hash-based mechanisms) and 3 (CTR_DRBG).
 use Rattle.std.specs.Prelude.{◌≡◌, ℕ, ◌<◌, ◌⊎◌, ◌^◌, Bool, true, List, [], ◌∷◌, map, slice_get, Option, Some, None, option_map, unwrap_or, Result, Ok, Err}
 use Rattle.rbg_bytes.specs.Kinds.{strength}
 use Rattle.rbg_bytes.specs.declared.kind.Kind.TheVariants.{HmacSha256}

@@ -8,34 +8,45 @@ ghost use Rattle.rbg_bytes.specs.declared.cond.Cond.TheVariants.{HmacSha256};
 
 use crate::fault::Field;
 use crate::fields::at;
+use crate::names::{cond_name, drbg_name};
 use crate::plan::NodeKind;
 use rbg_bytes::{Cond, Kind};
 use toml::{Table, Value};
+
+// The value whose name is this text, if it is one of these values.
+macro_rules! named {
+    ($text:expr, $name:expr, $($value:expr),+) => {{
+        let text = $text;
+        $(
+            if $name($value) == text {
+                return Some($value);
+            }
+        )+
+        None
+    }};
+}
 
 // A name of a conditioning component. Version 1 is the only one, and has both.
 fn conditioner_within(value: &Value, version: u8) -> Option<Cond>
     ensures { result ≡ one_of (cond_names version) (view value.now) }
 {
-    match value.as_str() {
-        Some("hmac-sha-256") => Some(Cond::HmacSha256),
-        Some("df-aes-256") => Some(Cond::DfAes256),
-        _ => None,
-    }
+    named!(value.as_str()?, cond_name, Cond::HmacSha256, Cond::DfAes256)
 }
 
 // A name of a kind of DRBG.
 fn drbg_within(value: &Value) -> Option<Kind>
     ensures { result ≡ one_of drbg_names (view value.now) }
 {
-    match value.as_str() {
-        Some("hmac-sha-256") => Some(Kind::HmacSha256),
-        Some("hmac-sha-384") => Some(Kind::HmacSha384),
-        Some("hmac-sha-512") => Some(Kind::HmacSha512),
-        Some("ctr-aes-128") => Some(Kind::CtrAes128),
-        Some("ctr-aes-192") => Some(Kind::CtrAes192),
-        Some("ctr-aes-256") => Some(Kind::CtrAes256),
-        _ => None,
-    }
+    named!(
+        value.as_str()?,
+        drbg_name,
+        Kind::HmacSha256,
+        Kind::HmacSha384,
+        Kind::HmacSha512,
+        Kind::CtrAes128,
+        Kind::CtrAes192,
+        Kind::CtrAes256
+    )
 }
 
 /// A kind of DRBG, which has to be there.
@@ -49,14 +60,15 @@ pub(crate) fn drbg(table: &Table, key: &str, field: Field) -> Result<Kind, Field
 fn node_kind_within(value: &Value) -> Option<NodeKind>
     ensures { result ≡ one_of node_kind_names (view value.now) }
 {
-    match value.as_str() {
-        Some("rbg1") => Some(NodeKind::Rbg1),
-        Some("rbg2") => Some(NodeKind::Rbg2),
-        Some("rbg3-xor") => Some(NodeKind::Rbg3Xor),
-        Some("rbg3-rs") => Some(NodeKind::Rbg3Rs),
-        Some("child") => Some(NodeKind::Child),
-        _ => None,
-    }
+    named!(
+        value.as_str()?,
+        NodeKind::name,
+        NodeKind::Rbg1,
+        NodeKind::Rbg2,
+        NodeKind::Rbg3Xor,
+        NodeKind::Rbg3Rs,
+        NodeKind::Child
+    )
 }
 
 /// A kind of node, which has to be there.
