@@ -1,2 +1,3 @@
 pub mod Node
 pub mod Views
+pub mod Counted

@@ -1,7 +1,7 @@
 -- What contracts see of a node, and what is true of every node.
 -- This project's own.
-use Rattle.std.specs.Prelude.{◌≡◌, ◌≤◌, ◌^◌, ℕ, List, length, Bool, true, false, Option, Some, None, nat_lt, if◌then◌else◌, bit_xor}
-use Rattle.std.specs.Simd.Lanes.{zip2}
+use Rattle.std.specs.Prelude.{◌≡◌, ◌≤◌, ◌^◌, ℕ, List, length, Bool, true, false, Option, Some, None, nat_lt, if◌then◌else◌}
+pub use Rattle.rbg_bytes.specs.Xor.{xor_bytes}
 use Rattle.drbg_any.specs.declared.drbg.Drbg.{Drbg}
 use Rattle.drbg_any.specs.Drbg.{Working}
 use Rattle.drbg_any.specs.State.{kind_of, working, counter_of, IsWellFormed}
@@ -68,7 +68,3 @@ short_by _ need have = None
 
 abbrev pub too_short : NodeRow → List ℕ → Option SeedShort
 too_short row seed = short_by row.kind (seed_len row New) (length seed)
-
--- each byte of one list xor that of another
-abbrev pub xor_bytes : List ℕ → List ℕ → List ℕ
-xor_bytes a b = zip2 bit_xor a b

@@ -1,11 +1,12 @@
 // The node with its calls.
-ghost use Rattle.std.specs.Prelude.{◌≡◌, ◌≤◌, ◌<◌, ◌^◌, length, true, false, Ok, Err, IsSome, IfSome, MatchOption};
+ghost use Rattle.std.specs.Prelude.{◌≡◌, ◌≤◌, ◌<◌, ◌^◌, length, true, false, Ok, Err, IsSome, IfSome, IfOk, MatchOption};
 ghost use Rattle.std.specs.Option.{is_some};
 ghost use Rattle.rbg_nodes.specs.Node.{fresh_node, kept_seed, node_after, is_due, given_bytes, entropy_len, seed_len, New, Renew, Seeded, Gave, Cleared};
-ghost use Rattle.rbg_nodes.specs.Views.{row_of, counts_of, too_short, xor_bytes, IsNode};
+ghost use Rattle.rbg_nodes.specs.Views.{row_of, counts_of, too_short, IsNode};
+ghost use Rattle.rbg_bytes.specs.Xor.{xor_bytes};
 
 use drbg_any::Drbg;
-use rbg_bytes::{Fixed, Kind};
+use rbg_bytes::{Fixed, Kind, xor_bytes};
 use std::marker::Model;
 use tree_config::{NodeKind, NodePlan};
 
@@ -59,16 +60,6 @@ impl Model for Node {
     ghost invariant = { λ n. (1 ≤ n.row.interval) × (n.row.interval ≤ 2 ^ 48) × IsOfKind n.row n.drbg × IsSeed n.row n.kept × IsUsed (is_there n.drbg) n.kept };
 }
 
-// Each byte xor the one at its place.
-fn add_bytes(out: &mut [u8], bytes: &[u8])
-    requires { length bytes.now ≡ length out.old }
-    ensures { out.new ≡ xor_bytes out.old bytes.now }
-{
-    for i in 0..out.len() {
-        out[i] ^= bytes[i];
-    }
-}
-
 impl NodeRow {
     // What is set of a node by its plan.
     fn of(plan: &NodePlan) -> NodeRow
@@ -104,8 +95,9 @@ impl Node {
     pub fn fresh(plan: &NodePlan, seed: &[u8]) -> Result<Node, SeedShort>
         requires interval_low { 1 ≤ plan.now.interval }
         requires interval_high { plan.now.interval ≤ 2 ^ 48 }
-        ensures { MatchOption (too_short (row_of plan.now) seed.now)
+        ensures value { MatchOption (too_short (row_of plan.now) seed.now)
             (result ≡ Ok (record { row = row_of plan.now; state = fresh_node (kept_seed (row_of plan.now) seed.now) })) (λ short. result ≡ Err short) }
+        ensures node { IfOk result (λ node. IsNode node) }
     {
         let row = NodeRow::of(plan);
         let need = row.seed_len();
@@ -148,14 +140,16 @@ impl Node {
 
     /// Whether the reseed counter is above the interval.
     pub fn due(&self) -> bool
-        ensures { result ≡ is_due self.now.row self.now.state }
+        ensures due { result ≡ is_due self.now.row self.now.state }
+        ensures node { IsNode self.now }
     {
         self.counts().counter > self.row.interval
     }
 
     /// Whether the node keeps a seed that was not used.
     pub fn has_seed(&self) -> bool
-        ensures { result ≡ is_some self.now.state.kept }
+        ensures kept { result ≡ is_some self.now.state.kept }
+        ensures node { IsNode self.now }
     {
         self.kept.is_some()
     }
@@ -167,7 +161,8 @@ impl Node {
         requires material { length material.now ≡ seed_len self.old.row New }
         requires pers { length pers.now ≤ 65536 }
         requires seeds { self.old.state.seeds < 2 ^ 62 }
-        ensures { self.new ≡ record self.old { state = node_after self.old.row self.old.state (Seeded New material.now pers.now) } }
+        ensures state { self.new ≡ record self.old { state = node_after self.old.row self.old.state (Seeded New material.now pers.now) } }
+        ensures node { IsNode self.new }
     {
         let (entropy, nonce) = material.split_at(self.row.entropy_len());
         self.drbg = Some(Drbg::instantiate(self.row.drbg, entropy, nonce, pers));
@@ -181,8 +176,9 @@ impl Node {
         requires kept { IsSome self.old.state.kept }
         requires pers { length pers.now ≤ 65536 }
         requires seeds { self.old.state.seeds < 2 ^ 62 }
-        ensures { IfSome self.old.state.kept (λ seed.
+        ensures state { IfSome self.old.state.kept (λ seed.
             self.new ≡ record self.old { state = node_after self.old.row self.old.state (Seeded New seed pers.now) }) }
+        ensures node { IsNode self.new }
     {
         let Some(seed) = self.kept.take() else {
             unreachable!();
@@ -196,7 +192,8 @@ impl Node {
         requires entropy { length entropy.now ≤ 65536 }
         requires add { length add.now ≤ 65536 }
         requires seeds { self.old.state.seeds < 2 ^ 62 }
-        ensures { self.new ≡ record self.old { state = node_after self.old.row self.old.state (Seeded Renew entropy.now add.now) } }
+        ensures state { self.new ≡ record self.old { state = node_after self.old.row self.old.state (Seeded Renew entropy.now add.now) } }
+        ensures node { IsNode self.new }
     {
         let Some(drbg) = &mut self.drbg else {
             unreachable!();
@@ -215,6 +212,7 @@ impl Node {
         requires gives { self.old.state.gives < 2 ^ 62 }
         ensures bytes { out.new ≡ given_bytes self.old.row self.old.state add.now (length out.old) }
         ensures state { self.new ≡ record self.old { state = node_after self.old.row self.old.state (Gave add.now (length out.old) out.new) } }
+        ensures node { IsNode self.new }
     {
         let Some(drbg) = &mut self.drbg else {
             unreachable!();
@@ -239,14 +237,16 @@ impl Node {
           state = node_after self.old.row self.old.state
               (Gave add.now (length out.old) (given_bytes self.old.row self.old.state add.now (length out.old)));
         } }
+        ensures node { IsNode self.new }
     {
         self.give(add, out);
-        add_bytes(out, fresh);
+        xor_bytes(out, fresh);
     }
 
     /// Lets go of the node's DRBG. Its counts of seedings and generates stay.
     pub fn clear(&mut self)
-        ensures { self.new ≡ record self.old { state = node_after self.old.row self.old.state Cleared } }
+        ensures state { self.new ≡ record self.old { state = node_after self.old.row self.old.state Cleared } }
+        ensures node { IsNode self.new }
     {
         self.drbg = None;
     }
