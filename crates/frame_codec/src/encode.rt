@@ -1,11 +1,12 @@
 // Frames as bytes.
 
-ghost use Rattle.std.specs.Prelude.{◌≡◌, ◌≤◌, ◌+◌, [], ◌++◌, length, take};
+ghost use Rattle.std.specs.Prelude.{◌≡◌, ◌≤◌, ◌+◌, [], ◌++◌, length, take, drop};
 ghost use Rattle.frame_codec.specs.Rows.{Takes, spelled};
 ghost use Rattle.frame_codec.specs.Grammar.{text_of, IsFramed};
 ghost use Rattle.frame_codec.specs.Frames.{requests, request_fields, request_numbers, reply_fields, reply_numbers, IsReplyHead};
 
 use crate::frames::{ReplyHead, Request};
+use rbg_bytes::{put_at, put_front};
 
 /// Writes the head of a reply frame, 28 bytes, behind which its payload comes. The head is of the grammar.
 pub fn encode_reply(head: &ReplyHead, out: &mut [u8; 28])
@@ -51,24 +52,24 @@ fn request_head(request: &Request) -> [u8; 16]
     ]
 }
 
-// Writes one piece and another behind it to the front.
+// Writes one piece and another behind it to the front, and leaves the rest as it is.
 fn put_pieces(out: &mut [u8], one: &[u8], other: &[u8])
     requires { length one.now + length other.now ≤ length out.old }
-    ensures { take (length one.now + length other.now) out.new ≡ one.now ++ other.now }
+    ensures front { take (length one.now + length other.now) out.new ≡ one.now ++ other.now }
+    ensures behind { drop (length one.now + length other.now) out.new ≡ drop (length one.now + length other.now) out.old }
 {
-    let (front, rest) = out.split_at_mut(one.len());
-    front.copy_from_slice(one);
-    let (middle, _) = rest.split_at_mut(other.len());
-    middle.copy_from_slice(other);
+    put_front(out, one);
+    put_at(out, one.len(), other);
 }
 
 /// Writes the frame of a request with its string to the front of `out`, and gives its length. The request and its string
-/// are of the grammar, and `out` has room for the frame.
+/// are of the grammar, and `out` has room for the frame. What is behind the frame stays as it is.
 pub fn encode_request(request: &Request, string: &[u8], out: &mut [u8]) -> usize
     requires framed { IsFramed requests (record { head = request.now; string = string.now }) }
     requires room { length (text_of requests (record { head = request.now; string = string.now })) ≤ length out.old }
     ensures len { result ≡ length (text_of requests (record { head = request.now; string = string.now })) }
     ensures text { take result out.new ≡ text_of requests (record { head = request.now; string = string.now }) }
+    ensures rest { drop result out.new ≡ drop result out.old }
 {
     let head = request_head(request);
     put_pieces(out, &head, string);
