@@ -5,5 +5,6 @@ pub mod Inverses
 pub mod Lanes
 pub mod Lengths
 pub mod Mixing
+pub mod Rows
 pub mod Sbox
 pub mod Words

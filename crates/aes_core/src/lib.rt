@@ -11,6 +11,7 @@
 #![tactic(auto)]
 
 mod cipher;
+mod four;
 mod inversion;
 mod keys;
 mod laws;

@@ -1,5 +1,5 @@
 -- The values on the way from a byte to its S-box value by inversion over GF(16), as functions of the byte.
--- FIPS 197, 5.1.1, by the method of Hamburg, "Accelerating AES with Vector Permute Instructions" (CHES 2009).
+-- This project's own, by the method of Hamburg, "Accelerating AES with Vector Permute Instructions" (CHES 2009).
 use Rattle.std.specs.Prelude.{ℕ, ◌/◌, ◌^◌, ◌||◌, List, IsTrue, slice_index, bit_and, bit_xor, nat_lt, nat_le, if◌then◌else◌}
 use Rattle.aes_core.specs.declared.tables.TheConstants.{IN_LOW, IN_HIGH, INVERSE, SHARE, OUT_FIRST, OUT_SECOND}
 
