@@ -8,7 +8,7 @@ ghost use Rattle.ctr_drbg.specs.Lengths.{bad_length, FitsSeed};
 ghost use Rattle.ctr_drbg.specs.Refusals.{generate_refusal};
 
 use crate::seeds::{BadSeedLength, Mode, keylen_of, seed_of, stretched, zeros};
-use crate::stream::{block_at, fill, seed_stream, xor_bytes};
+use crate::stream::{block_at, fill, seed_stream, summed};
 use aes_core::Aes;
 use df_core::KeyLen;
 use rbg_bytes::Fixed;
@@ -200,7 +200,7 @@ impl CtrDrbg {
     {
         let keylen = self.key.as_slice().len();
         let bytes = seed_stream(aes, self.v, keylen + 16);
-        let temp = xor_bytes(bytes.as_slice(), provided);
+        let temp = summed(bytes.as_slice(), provided);
         self.key = Fixed::of(&temp.as_slice()[..keylen]);
         self.v = block_at(temp.as_slice(), keylen);
     }

@@ -3,10 +3,11 @@ ghost use Rattle.std.specs.Prelude.{◌≡◌, ◌≤◌, ◌+◌, ◌++◌, len
 ghost use Rattle.aes_core.specs.Keys.{IsKeyLength};
 ghost use Rattle.df_core.specs.KeyLen.{key_bytes};
 ghost use Rattle.df_core.specs.Df.{df};
-ghost use Rattle.ctr_drbg.specs.CtrDrbg.{first_seed, seed_len, stretched, xor_bytes, zero_padded};
+ghost use Rattle.rbg_bytes.specs.Xor.{xor_bytes};
+ghost use Rattle.ctr_drbg.specs.CtrDrbg.{first_seed, seed_len, stretched, zero_padded};
 ghost use Rattle.ctr_drbg.specs.Lengths.{bad_length, FitsSeed};
 
-use crate::stream::xor_bytes;
+use crate::stream::summed;
 use df_core::{Df, KeyLen};
 use rbg_bytes::Fixed;
 
@@ -130,7 +131,7 @@ fn padded_sum(bytes: &[u8], string: &[u8], n: usize) -> Fixed<64>
     ensures long { length result ≡ n }
 {
     let padded = zero_padded(string, n);
-    let sum = xor_bytes(bytes, padded.as_slice());
+    let sum = summed(bytes, padded.as_slice());
     Fixed::of(sum.as_slice())
 }
 

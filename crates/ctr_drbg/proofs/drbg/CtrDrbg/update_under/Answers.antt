@@ -3,8 +3,8 @@ use Rattle.ctr_drbg.specs.CtrDrbg.{update}
 use Rattle.ctr_drbg.proofs.Lengths.{length-front}
 use Rattle.ctr_drbg.proofs.drbg.CtrDrbg.update_under.Goals as goal
 
-pub xor_bytes-temp-requires-clause-same : goal.xor_bytes-temp-requires-clause-same
-xor_bytes-temp-requires-clause-same c =
+pub summed-temp-requires-clause-same : goal.summed-temp-requires-clause-same
+summed-temp-requires-clause-same c =
     let n = length c.as_slice-keylen.result.now + 16 in
     let front = length-front c.args.aes.now c.args.self.now.v n in
     let key = ap length c.as_slice-keylen.ensures.bytes in
@@ -18,7 +18,7 @@ returns-clause-state c =
       c.as_slice-2.ensures.bytes,
       c.block_at-self.ensures,
       c.as_slice-3.ensures.bytes,
-      c.xor_bytes-temp.ensures.bytes,
+      c.summed-temp.ensures.bytes,
       c.as_slice.ensures.bytes,
       c.seed_stream-bytes.ensures,
       c.as_slice-keylen.ensures.bytes,

@@ -1,6 +1,6 @@
 use Rattle.std.proofs.Common.{◌≡◌, ◌*◌, take, length}
 use Rattle.ctr_drbg.specs.CtrDrbg.{counted, stream}
-use Rattle.ctr_drbg.proofs.stream.fill.Given as goal
+use Rattle.ctr_drbg.proofs.stream.fill_ones.Given as goal
 
 abbrev pub invariant-places : goal.invariant-places
 invariant-places l =
