@@ -2,3 +2,4 @@
 -- This project's own.
 pub mod Blocks
 pub mod Inversion
+pub mod Power

@@ -15,6 +15,7 @@ mod four;
 mod inversion;
 mod keys;
 mod laws;
+mod power;
 mod rounds;
 mod tables;
 

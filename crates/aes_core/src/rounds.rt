@@ -25,7 +25,7 @@ const SHIFTED_TWICE_ON: [usize; 64] = [
 
 // The product of each byte with x.
 #[inline(always)]
-fn doubled(v: u8x64) -> u8x64
+pub(crate) fn doubled(v: u8x64) -> u8x64
     ensures { result ≡ map (times 2) v }
 {
     (v + v) ^ ((u8x64::splat(0) - (v >> u8x64::splat(7))) & u8x64::splat(0x1b))
