@@ -7,9 +7,8 @@ ghost use Rattle.rbg_bytes.specs.Xor.{xor_bytes};
 ghost use Rattle.ctr_drbg.specs.CtrDrbg.{first_seed, seed_len, stretched, zero_padded};
 ghost use Rattle.ctr_drbg.specs.Lengths.{bad_length, FitsSeed};
 
-use crate::stream::summed;
 use df_core::{Df, KeyLen};
-use rbg_bytes::Fixed;
+use rbg_bytes::{Fixed, put_front, xor_bytes};
 
 /// Whether CTR_DRBG uses the derivation function Block_Cipher_df (SP 800-90A Rev. 1, 10.2.1).
 #[derive(Clone, Copy, Debug, PartialEq, Eq)]
@@ -130,9 +129,10 @@ fn padded_sum(bytes: &[u8], string: &[u8], n: usize) -> Fixed<64>
     ensures bytes { result ≡ xor_bytes bytes.now (zero_padded n string.now) }
     ensures long { length result ≡ n }
 {
-    let padded = zero_padded(string, n);
-    let sum = summed(bytes, padded.as_slice());
-    Fixed::of(sum.as_slice())
+    let mut sum = [0u8; 48];
+    put_front(&mut sum, bytes);
+    xor_bytes(&mut sum[..n], zero_padded(string, n).as_slice());
+    Fixed::of(&sum[..n])
 }
 
 // What an instantiation gives the update; with an empty nonce, what a reseed does.

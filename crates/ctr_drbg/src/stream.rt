@@ -1,13 +1,12 @@
-// The encryptions of V + 1, V + 2 and so on, and sums of bytes.
+// The encryptions of V + 1, V + 2 and so on, and a block of them.
 ghost use Rattle.std.specs.Prelude.{◌≡◌, ◌≤◌, ◌+◌, ◌*◌, ◌∷◌, ◌++◌, [], length, take, drop};
 ghost use Rattle.std.specs.List.{concat};
 ghost use Rattle.aes_core.specs.Aes.{aes as aes_of};
 ghost use Rattle.df_core.specs.Df.{blocks_for};
-ghost use Rattle.rbg_bytes.specs.Xor.{xor_bytes};
 ghost use Rattle.ctr_drbg.specs.CtrDrbg.{counted, plus_one, stream};
 
 use aes_core::Aes;
-use rbg_bytes::{Fixed, put_at, put_fitting, put_front, xor_bytes};
+use rbg_bytes::{put_at, put_fitting};
 
 // The value after V, modulo 2^128.
 fn next(v: [u8; 16]) -> [u8; 16]
@@ -69,13 +68,19 @@ fn fill_ones(aes: &Aes, v: [u8; 16], out: &mut [u8]) -> [u8; 16]
     ensures bytes { out.new ≡ take (length out.old) (stream aes.now v (blocks_for (length out.old))) }
     ensures value { result ≡ counted v (blocks_for (length out.old)) }
 {
+    let whole = out.len() / 16;
     let mut last = v;
-    'places: for i in 0..(out.len() + 15) / 16 {
+    'places: for i in 0..whole {
         let value = next(last);
-        put_fitting(out, 16 * i, &encrypted(aes, value));
+        put_at(out, 16 * i, &encrypted(aes, value));
         last = value;
     }
-    last
+    if 16 * whole == out.len() {
+        return last;
+    }
+    let value = next(last);
+    put_fitting(out, 16 * whole, &encrypted(aes, value));
+    value
 }
 
 // Fills the bytes with the encryptions of V + 1, V + 2 and so on, and gives the last V: four blocks at once, and the rest one
@@ -90,40 +95,28 @@ pub(crate) fn fill(aes: &Aes, v: [u8; 16], out: &mut [u8]) -> [u8; 16]
     fill_ones(aes, last, &mut out[64 * fours..])
 }
 
-// The first `n` bytes of the encryptions of V + 1, V + 2 and so on. For three blocks it is faster to encrypt four at once.
-pub(crate) fn seed_stream(aes: &Aes, v: [u8; 16], n: usize) -> Fixed<48>
+// The encryptions of V + 1, V + 2 and so on, `n` bytes of them, with other bytes behind. For three blocks it is faster to encrypt
+// four at once.
+pub(crate) fn seed_stream(aes: &Aes, v: [u8; 16], n: usize) -> [u8; 64]
     requires { n ≤ 48 }
-    ensures { result ≡ take n (stream aes.now v (blocks_for n)) }
+    ensures bytes { take n result ≡ take n (stream aes.now v (blocks_for n)) }
+    ensures long { length result ≡ 64 }
 {
-    if n <= 32 {
-        let mut bytes = [0u8; 32];
-        fill_ones(aes, v, &mut bytes[..n]);
-        return Fixed::of(&bytes[..n]);
-    }
     let mut bytes = [0u8; 64];
+    if n <= 32 {
+        fill_ones(aes, v, &mut bytes[..n]);
+        return bytes;
+    }
     fill_fours(aes, v, 1, &mut bytes);
-    Fixed::of(&bytes[..n])
+    bytes
 }
 
-// The sum of two rows of bytes.
-pub(crate) fn summed(a: &[u8], b: &[u8]) -> Fixed<48>
-    requires same { length a.now ≡ length b.now }
-    requires bound { length a.now ≤ 48 }
-    ensures bytes { result ≡ xor_bytes a.now b.now }
-    ensures long { length result ≡ length b.now }
-{
-    let mut sum = [0u8; 48];
-    put_front(&mut sum, a);
-    xor_bytes(&mut sum[..a.len()], b);
-    Fixed::of(&sum[..a.len()])
-}
-
-// The block at a place, with which the bytes end.
-pub(crate) fn block_at(bytes: &[u8], at: usize) -> [u8; 16]
-    requires { length bytes.now ≡ at + 16 }
-    ensures { result ≡ drop at bytes.now }
+// The block at a place.
+pub(crate) fn block_at(bytes: &[u8; 64], at: usize) -> [u8; 16]
+    requires { at + 16 ≤ 64 }
+    ensures { result ≡ take 16 (drop at bytes.now) }
 {
     let mut block = [0u8; 16];
-    block.copy_from_slice(&bytes[at..]);
+    block.copy_from_slice(&bytes[at..at + 16]);
     block
 }

@@ -4,4 +4,4 @@ use Rattle.ctr_drbg.proofs.stream.fill_ones.Given as goal
 
 abbrev pub invariant-places : goal.invariant-places
 invariant-places l =
-    (l.last ≡ counted l.fn.v l.i) × (take (16 * l.i) l.out ≡ take (length l.out) (stream l.aes l.fn.v l.i))
+    (l.last ≡ counted l.fn.v l.i) × (take (16 * l.i) l.out ≡ stream l.aes l.fn.v l.i)

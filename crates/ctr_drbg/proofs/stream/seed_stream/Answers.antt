@@ -4,16 +4,15 @@ use Rattle.ctr_drbg.proofs.Lengths.{length-front}
 use Rattle.ctr_drbg.proofs.Rows.{front_of, stream-front}
 use Rattle.ctr_drbg.proofs.stream.seed_stream.Goals as goal
 
-pub returns-then-n-le32 : goal.returns-then-n-le32
-returns-then-n-le32 c =
+pub returns-then-n-le32-clause-bytes : goal.returns-then-n-le32-clause-bytes
+returns-then-n-le32-clause-bytes c =
     let n = c.args.n in
-    let size = length-take-le n (replicate {A = ℕ} 32 0) c.if-n-le32.true in
+    let size = length-take-le n (replicate {A = ℕ} 64 0) (omega (arith, c.if-n-le32.true)) in
     let bytes = rw size at c.fill_ones.ensures.bytes in
-    c.of.ensures ∙ (front_of n c.fill_ones.new.out _ (ap length bytes ∙ length-front c.args.aes.now c.args.v n) ∙ bytes)
+    front_of n c.fill_ones.new.out _ (ap length bytes ∙ length-front c.args.aes.now c.args.v n) ∙ bytes
 
-pub returns : goal.returns
-returns c =
+pub returns-clause-bytes : goal.returns-clause-bytes
+returns-clause-bytes c =
     let n = c.args.n in
     let out = c.fill_fours.new.out in
-    c.of-2.ensures
-    ∙ (sym (take-take n 64 out (omega arith)) ∙ (ap (take n) c.fill_fours.ensures.bytes ∙ stream-front c.args.aes.now c.args.v n 4 (omega arith)))
+    sym (take-take n 64 out (omega arith)) ∙ (ap (take n) c.fill_fours.ensures.bytes ∙ stream-front c.args.aes.now c.args.v n 4 (omega arith))
