@@ -7,7 +7,7 @@ ghost use Rattle.ctr_drbg.specs.State.{working, IsWellFormed};
 ghost use Rattle.ctr_drbg.specs.Lengths.{bad_length, FitsSeed};
 ghost use Rattle.ctr_drbg.specs.Refusals.{generate_refusal};
 
-use crate::seeds::{BadSeedLength, Mode, keylen_of, seed_of, stretched, zeros};
+use crate::seeds::{BadSeedLength, Mode, check_string, keylen_of, seed_of, stretched, zeros};
 use crate::stream::{block_at, fill, seed_stream};
 use aes_core::Aes;
 use df_core::KeyLen;
@@ -110,11 +110,8 @@ impl CtrDrbg {
             });
         }
         let want = self.key.as_slice().len() + 16;
-        if self.mode == Mode::NoDf && add.len() > want {
-            return Err(CtrRefusal::BadSeedLength {
-                len: add.len(),
-                want,
-            });
+        if let Err(BadSeedLength { len, want }) = check_string(self.mode, want, add) {
+            return Err(CtrRefusal::BadSeedLength { len, want });
         }
         self.give(add, out);
         self.counter += 1;

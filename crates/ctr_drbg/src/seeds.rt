@@ -5,7 +5,7 @@ ghost use Rattle.df_core.specs.KeyLen.{key_bytes};
 ghost use Rattle.df_core.specs.Df.{df};
 ghost use Rattle.rbg_bytes.specs.Xor.{xor_bytes};
 ghost use Rattle.ctr_drbg.specs.CtrDrbg.{first_seed, seed_len, stretched, zero_padded};
-ghost use Rattle.ctr_drbg.specs.Lengths.{bad_length, FitsSeed};
+ghost use Rattle.ctr_drbg.specs.Lengths.{bad_length, long_string, FitsSeed};
 
 use df_core::{Df, KeyLen};
 use rbg_bytes::{Fixed, put_front, xor_bytes};
@@ -94,6 +94,17 @@ pub(crate) fn stretched(mode: Mode, keylen: KeyLen, add: &[u8]) -> Fixed<64>
     }
 }
 
+// Without the derivation function: whether a string has at most seedlen bytes, `want`.
+pub(crate) fn check_string(mode: Mode, want: usize, string: &[u8]) -> Result<(), BadSeedLength>
+    ensures { MatchOption (long_string mode want string.now) (IsOk result) (λ len. IsErrOf result (record { len = len; want = want })) }
+{
+    let len = string.len();
+    if mode == Mode::NoDf && len > want {
+        return Err(BadSeedLength { len, want });
+    }
+    Ok(())
+}
+
 // Without the derivation function: whether the lengths are as they must be, the entropy's first.
 fn check_lengths(
     mode: Mode,
@@ -103,22 +114,11 @@ fn check_lengths(
 ) -> Result<(), BadSeedLength>
     ensures { MatchOption (bad_length mode want entropy.now string.now) (IsOk result) (λ len. IsErrOf result (record { len = len; want = want })) }
 {
-    if mode == Mode::UseDf {
-        return Ok(());
+    let len = entropy.len();
+    if mode == Mode::NoDf && len != want {
+        return Err(BadSeedLength { len, want });
     }
-    if entropy.len() != want {
-        return Err(BadSeedLength {
-            len: entropy.len(),
-            want,
-        });
-    }
-    if string.len() > want {
-        return Err(BadSeedLength {
-            len: string.len(),
-            want,
-        });
-    }
-    Ok(())
+    check_string(mode, want, string)
 }
 
 // The sum of a row of bytes and of another with zeros after it.
