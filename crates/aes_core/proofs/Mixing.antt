@@ -127,17 +127,17 @@ mixed_is v next sum inner moved fits is_next is_sum is_inner is_moved =
     let long = fits.0 in
     let e1 : next ≡ each_block next_of v = is_next ∙ next_is v long in
     let e2 : sum ≡ each_block sum_of v =
-        is_sum ∙ (ap (zip2 bit_xor v) e1 ∙ (ap (λ (t : List ℕ). zip2 bit_xor t (each_block next_of v)) (each_same v long)
-        ∙ each_zip bit_xor (λ b. b) next_of v long (λ b e. e) (λ b e. refl))) in
+    is_sum ∙ (ap (zip2 bit_xor v) e1 ∙ (ap (λ (t : List ℕ). zip2 bit_xor t (each_block next_of v)) (each_same v long)
+    ∙ each_zip bit_xor (λ b. b) next_of v long (λ b e. e) (λ b e. refl))) in
     let e3 : inner ≡ each_block inner_of v =
-        is_inner ∙ (ap (λ (t : List ℕ). zip2 bit_xor (map (times 2) t) next) e2 ∙ (ap (zip2 bit_xor (map (times 2) (each_block sum_of v))) e1
-        ∙ (ap (λ (t : List ℕ). zip2 bit_xor t (each_block next_of v)) (each_map (times 2) sum_of v)
-        ∙ each_zip bit_xor (λ b. map (times 2) (sum_of b)) next_of v long (λ b e. length-map (sum_of b) (times 2) ∙ length-sum b e) (λ b e. refl)))) in
+    is_inner ∙ (ap (λ (t : List ℕ). zip2 bit_xor (map (times 2) t) next) e2 ∙ (ap (zip2 bit_xor (map (times 2) (each_block sum_of v))) e1
+    ∙ (ap (λ (t : List ℕ). zip2 bit_xor t (each_block next_of v)) (each_map (times 2) sum_of v)
+    ∙ each_zip bit_xor (λ b. map (times 2) (sum_of b)) next_of v long (λ b e. length-map (sum_of b) (times 2) ∙ length-sum b e) (λ b e. refl)))) in
     let e4 : each_block shift_rows inner ≡ each_block (λ b. shift_rows (inner_of b)) v =
-        ap (each_block shift_rows) e3 ∙ each_each shift_rows inner_of v long length-inner in
+    ap (each_block shift_rows) e3 ∙ each_each shift_rows inner_of v long length-inner in
     let e5 : moved ≡ each_block (λ b. twice_on (sum_of b)) v =
-        is_moved ∙ (ap (λ (t : List ℕ). pick_l 0 (t ++ t) SHIFTED_TWICE_ON) e2
-        ∙ (twice_on_is (each_block sum_of v) (length-each sum_of v long length-sum) ∙ each_each twice_on sum_of v long length-sum)) in
+    is_moved ∙ (ap (λ (t : List ℕ). pick_l 0 (t ++ t) SHIFTED_TWICE_ON) e2
+    ∙ (twice_on_is (each_block sum_of v) (length-each sum_of v long length-sum) ∙ each_each twice_on sum_of v long length-sum)) in
     ap (λ (t : List ℕ). zip2 bit_xor t moved) e4 ∙ (ap (zip2 bit_xor (each_block (λ b. shift_rows (inner_of b)) v)) e5
     ∙ (each_zip bit_xor (λ b. shift_rows (inner_of b)) (λ b. twice_on (sum_of b)) v long (λ b e. refl) (λ b e. refl)
     ∙ each_alike block_mixed (λ b. mix_columns (shift_rows b)) v fits block_mixed_is))

@@ -49,10 +49,12 @@ cut_is s long = of_each 64 (λ s. cut s ≡ take 16 s ∷ take 16 (drop 16 s) �
 -- the bytes of a part are bytes
 part_fits : (v : List ℕ) (i : ℕ) → i + 16 ≤ 64 → AreBlocks v → IsBlock (take 16 (drop i v))
 part_fits v i within fits =
-    let long : length (chunk i 16 v) ≡ 16 = length-chunk i 16 v (omega (arith, fits.0)) in
-    (long, Each1-from_get_or (Fits w8) (chunk i 16 v) 0 (λ k lt.
-    let at : get_or (chunk i 16 v) k 0 ≡ get_or v (i + k) 0 = get_or-chunk i 16 v k 0 (omega (arith, long)) in
-    subst (Fits w8) (sym at) (Each1-get_or (Fits w8) v (i + k) 0 (omega (arith, fits.0, long)) fits.1)))
+    let long : length (chunk i 16 v) ≡ 16 = length-chunk i 16 v (omega (arith, fits.0)) in (
+      long,
+      Each1-from_get_or (Fits w8) (chunk i 16 v) 0 (λ k lt.
+          let at : get_or (chunk i 16 v) k 0 ≡ get_or v (i + k) 0 = get_or-chunk i 16 v k 0 (omega (arith, long)) in
+          subst (Fits w8) (sym at) (Each1-get_or (Fits w8) v (i + k) 0 (omega (arith, fits.0, long)) fits.1)),
+    )
 
 pub each_alike : (f g : List ℕ → List ℕ) (v : List ℕ) → AreBlocks v → ((b : List ℕ) → IsBlock b → f b ≡ g b) → each_block f v ≡ each_block g v
 each_alike f g v fits same =
@@ -122,7 +124,7 @@ pub each_zip : (f : ℕ → ℕ → ℕ) (g h : List ℕ → List ℕ) (v : List
     ((b : List ℕ) → length b ≡ 16 → length (h b) ≡ 16) → zip2 f (each_block g v) (each_block h v) ≡ each_block (λ b. zip2 f (g b) (h b)) v
 each_zip f g h v long kept_g kept_h =
     let at : (k : List ℕ → List ℕ) → ((b : List ℕ) → length b ≡ 16 → length (k b) ≡ 16) → (i : ℕ) → i + 16 ≤ 64 → length (k (take 16 (drop i v))) ≡ 16 =
-        λ k kept i within. kept (take 16 (drop i v)) (length-chunk i 16 v (omega (arith, long))) in
+    λ k kept i within. kept (take 16 (drop i v)) (length-chunk i 16 v (omega (arith, long))) in
     let g0 = g (take 16 v) in let g1 = g (take 16 (drop 16 v)) in let g2 = g (take 16 (drop 32 v)) in let g3 = g (take 16 (drop 48 v)) in
     let h0 = h (take 16 v) in let h1 = h (take 16 (drop 16 v)) in let h2 = h (take 16 (drop 32 v)) in let h3 = h (take 16 (drop 48 v)) in
     let eg0 = at g kept_g 0 (lit≤ tt) in let eg1 = at g kept_g 16 (lit≤ tt) in let eg2 = at g kept_g 32 (lit≤ tt) in
@@ -161,5 +163,5 @@ pub each_parted : (f : List ℕ → List ℕ) (blocks : List (List ℕ)) (v : Li
     v ≡ each_of f blocks → take 16 v ∷ take 16 (drop 16 v) ∷ take 16 (drop 32 v) ∷ take 16 (drop 48 v) ∷ [] ≡ map f blocks
 each_parted f blocks v four long is =
     let cut = parts (f (get_or blocks 0 [])) (f (get_or blocks 1 [])) (f (get_or blocks 2 [])) (f (get_or blocks 3 []))
-        (long (get_or blocks 0 [])) (long (get_or blocks 1 [])) (long (get_or blocks 2 [])) (long (get_or blocks 3 [])) in
+    (long (get_or blocks 0 [])) (long (get_or blocks 1 [])) (long (get_or blocks 2 [])) (long (get_or blocks 3 [])) in
     rw (is, cut.0, cut.1, cut.2, cut.3) (listed f blocks four)

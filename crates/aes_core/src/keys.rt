@@ -33,7 +33,10 @@ fn rotated(t: u8x4) -> u8x4
 fn sub_word(t: u8x4) -> u8x4
     ensures { result ≡ sub_word t }
 {
-    substituted(four_times(t.swizzle([0, 1, 2, 3, 0, 1, 2, 3, 0, 1, 2, 3, 0, 1, 2, 3]))).extract::<0, 4>()
+    substituted(four_times(t.swizzle([0, 1, 2, 3, 0, 1, 2, 3, 0, 1, 2, 3, 0, 1, 2, 3]))).extract::<
+        0,
+        4,
+    >()
 }
 
 // The sum of two words.

@@ -35,7 +35,7 @@ update_is s held provided sum key value fits same front is_sum is_key is_value =
     let size : length sum ≡ length s.key + 16 = ap length is_sum ∙ (length-zip2 bit_xor (take n held) provided (long ∙ sym same) ∙ long) in
     let both = key_and_block (length s.key) sum (drop n held) size in
     let temp : sum ≡ xor_bytes (take (length s.key + 16) (stream s.key s.value (blocks_for (length s.key + 16)))) provided =
-        is_sum ∙ ap (λ (x : List ℕ). xor_bytes x provided) front in
+    is_sum ∙ ap (λ (x : List ℕ). xor_bytes x provided) front in
     rw (is_key, is_value, both.0, both.1, temp) refl
 
 pub length-zero_padded : (n : ℕ) (bytes : List ℕ) → length bytes ≤ n → n ≡ length (zero_padded n bytes)

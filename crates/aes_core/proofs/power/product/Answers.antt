@@ -18,7 +18,7 @@ bits-preserved c =
     let same : length c.args.a ≡ length c.args.b = omega (arith, c.fits-a.0, c.fits-b.0) in
     let more = c.term-sum.ensures ∙ ap (zip2 (term_of k) b) c.bits.invariant.1 in (
       ap (λ (t : List ℕ). zip2 bit_xor t c.term-sum.result) c.bits.invariant.0
-      ∙ (ap (zip2 bit_xor (zip2 (sum_of k) a b)) more ∙ (term_more k a b same ∙ ap (λ (n : ℕ). zip2 (sum_of n) a b) (sym (add-one k)))),
+          ∙ (ap (zip2 bit_xor (zip2 (sum_of k) a b)) more ∙ (term_more k a b same ∙ ap (λ (n : ℕ). zip2 (sum_of n) a b) (sym (add-one k)))),
       c.doubled-multiple.ensures ∙ (ap (map (times 2)) c.bits.invariant.1 ∙ (map-map (times 2) (multiple_of k) a ∙ ap (λ (n : ℕ). map (multiple_of n) a) (sym (add-one k)))),
     )
 

@@ -39,8 +39,8 @@ returns-clause-value c =
     let f : List ℕ → List ℕ = λ b. add_round_key c.self.inside.keys c.self.inside.rounds (shift_rows (sub_bytes b)) in
     let g : List ℕ → List ℕ = λ b. after_rounds (expanded c.args.self.now) b (c.rounds.n - 1) in
     let is : c.last_round.result ≡ _ = c.last_round.ensures
-        ∙ (ap (each_block f) c.rounds.invariant
-        ∙ (each_of_each f g c.args.blocks.now (λ b. length-after (expanded key) b (n - 1))
-        ∙ each_of_alike (λ b. f (g b)) (aes key) c.args.blocks.now
-        (λ b. last_round keys key b (g b) (f (g b)) c.self.inside.rounds n c.self.invariant c.self.view_is end refl refl))) in
+    ∙ (ap (each_block f) c.rounds.invariant
+    ∙ (each_of_each f g c.args.blocks.now (λ b. length-after (expanded key) b (n - 1))
+    ∙ each_of_alike (λ b. f (g b)) (aes key) c.args.blocks.now
+    (λ b. last_round keys key b (g b) (f (g b)) c.self.inside.rounds n c.self.invariant c.self.view_is end refl refl))) in
     c.parted.ensures ∙ each_parted (aes key) c.args.blocks.now c.last_round.result c.told-blocks (length-aes key) is
