@@ -1,6 +1,6 @@
 -- The inverse as the 254th power, and products by doubling.
-use Rattle.std.proofs.Common.{◌≡◌, ℕ, zero, suc, ◌+◌, ◌-◌, ◌*◌, ◌/◌, ◌%◌, ◌<◌, ◌^◌, T, eqb, eqb→eq, List, [], ◌∷◌, map, length, replicate, refl, ap, ◌∙◌, arith, w8, Fits}
-use Rattle.std.specs.Prelude.{bit_and, bit_xor}
+use Rattle.std.proofs.Common.{◌≡◌, ℕ, zero, suc, T, eqb, eqb→eq, List, [], ◌∷◌, map, length, replicate, refl, ap, arith, w8, Fits}
+use Rattle.std.specs.Prelude.{bit_xor}
 use Rattle.std.specs.Simd.Lanes.{Each1, zip2}
 use Rattle.aes_core.specs.Field.{affine, inverse, times}
 use Rattle.aes_core.specs.Code.Power.{term_of, turned_of}

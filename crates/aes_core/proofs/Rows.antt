@@ -1,10 +1,10 @@
 -- Four blocks in a row.
-use Rattle.std.proofs.Common.{◌≡◌, ℕ, zero, suc, ◌+◌, ◌-◌, ◌<◌, ◌≤◌, List, [], ◌∷◌, ◌++◌, append_assoc, length, length-append, map, take, drop, get_or, refl, sym, ap, subst, ◌∙◌, arith, lit≤, w8, Fits}
-use Rattle.std.specs.Simd.Lanes.{Each1, chunk, pick_l, zip2}
-use Rattle.std.proofs.lemmas.List.{map-append, take-append-drop, drop-drop, take_all}
+use Rattle.std.proofs.Common.{◌≡◌, ℕ, ◌+◌, ◌≤◌, List, [], ◌∷◌, ◌++◌, append_assoc, length, length-append, map, take, drop, get_or, refl, sym, ap, subst, ◌∙◌, arith, lit≤, w8, Fits}
+use Rattle.std.specs.Simd.Lanes.{chunk, pick_l, zip2}
+use Rattle.std.proofs.lemmas.List.{map-append, drop-drop, take_all}
 use Rattle.std.proofs.lemmas.Simd.{Each1-from_get_or, Each1-get_or, get_or-chunk, length-chunk}
 use Rattle.std.proofs.Math.Seq.{take-append_seam, drop-append_seam}
-use Rattle.aes_core.proofs.Lanes.{AreBlocks, IsBlock, lane_fits, of_each}
+use Rattle.aes_core.proofs.Lanes.{AreBlocks, IsBlock, of_each}
 use Rattle.aes_core.specs.Code.Blocks.{each_block}
 
 abbrev pub four_times : List ℕ

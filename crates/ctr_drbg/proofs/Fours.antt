@@ -1,12 +1,12 @@
 -- Four blocks of the bytes at once.
-use Rattle.std.proofs.Common.{◌≡◌, ◌≤◌, ℕ, zero, suc, ◌+◌, ◌*◌, ◌/◌, ◌-◌, List, [], ◌∷◌, ◌++◌, length, map, take, drop, get_or, refl, sym, ap, ◌∙◌, arith, append_assoc, append-nil, length-append}
+use Rattle.std.proofs.Common.{◌≡◌, ◌≤◌, ℕ, ◌+◌, ◌*◌, ◌/◌, ◌-◌, List, [], ◌∷◌, ◌++◌, length, map, take, drop, get_or, refl, sym, ap, ◌∙◌, arith, append_assoc, append-nil}
 use Rattle.std.specs.List.{concat}
 use borrow.Rule.Slice.PartMut.{put_mid}
 use Rattle.std.proofs.Math.ListN.{drop_of_length-le}
 use Rattle.std.proofs.lemmas.List.{drop-drop}
 use Rattle.aes_core.specs.Aes.{aes}
 use Rattle.df_core.specs.Df.{blocks_for}
-use Rattle.ctr_drbg.specs.CtrDrbg.{counted, plus_one, stream}
+use Rattle.ctr_drbg.specs.CtrDrbg.{counted, stream}
 use Rattle.ctr_drbg.proofs.Lengths.{length-front, length-stream}
 use Rattle.ctr_drbg.proofs.Rows.{counted-add, stream-append, two_parts}
 

@@ -1,4 +1,4 @@
-use Rattle.std.proofs.Common.{◌≡◌, ◌++◌, append_assoc, length-append, length, arith, refl, sym, ◌∙◌}
+use Rattle.std.proofs.Common.{◌≡◌, ◌++◌, append_assoc, length-append, length, arith, sym, ◌∙◌}
 use Rattle.aes_core.proofs.Rows.{all_of_64}
 use Rattle.aes_core.proofs.four.joined.Goals as goal
 

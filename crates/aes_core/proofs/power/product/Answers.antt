@@ -1,4 +1,4 @@
-use Rattle.std.proofs.Common.{◌≡◌, ◌+◌, ℕ, List, bit_xor, length, map, ap, sym, ◌∙◌, add-one, arith}
+use Rattle.std.proofs.Common.{◌≡◌, ℕ, List, bit_xor, length, map, ap, sym, ◌∙◌, add-one, arith}
 use Rattle.std.specs.Simd.Lanes.{zip2}
 use Rattle.aes_core.specs.Code.Power.{term_of}
 use Rattle.aes_core.specs.Field.{times}

@@ -1,4 +1,4 @@
-use Rattle.std.proofs.Common.{map, ap, ◌∙◌, refl}
+use Rattle.std.proofs.Common.{map, ap, ◌∙◌}
 use Rattle.std.proofs.lemmas.Simd.{map-map}
 use Rattle.aes_core.specs.Field.{affine, inverse, sub_byte}
 use Rattle.aes_core.proofs.power.substituted_by_power.Goals as goal

@@ -1,7 +1,5 @@
-use Rattle.std.proofs.Common.{◌++◌, List, ℕ, bit_xor, map, refl, ap, ◌∙◌}
+use Rattle.std.proofs.Common.{◌++◌, List, ℕ, bit_xor, refl, ap, ◌∙◌}
 use Rattle.std.specs.Simd.Lanes.{pick_l, zip2}
-use Rattle.aes_core.specs.Field.{times}
-use Rattle.aes_core.specs.Code.Blocks.{each_block}
 use Rattle.aes_core.specs.declared.rounds.TheConstants.{NEXT, SHIFTED_TWICE_ON}
 use Rattle.aes_core.proofs.Mixing.{mixed_is}
 use Rattle.aes_core.proofs.rounds.mixed.Goals as goal

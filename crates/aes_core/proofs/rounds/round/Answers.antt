@@ -1,4 +1,4 @@
-use Rattle.std.proofs.Common.{◌≡◌, ◌∙◌, List, ℕ, ap, refl}
+use Rattle.std.proofs.Common.{◌∙◌, List, ℕ, ap, refl}
 use Rattle.aes_core.specs.Aes.{add_round_key, mix_columns, shift_rows, sub_bytes}
 use Rattle.aes_core.specs.Code.Blocks.{each_block}
 use Rattle.aes_core.proofs.Rows.{each_each}

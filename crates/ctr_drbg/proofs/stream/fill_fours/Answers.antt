@@ -1,4 +1,4 @@
-use Rattle.std.proofs.Common.{◌≡◌, ap, sym, ◌∙◌, arith, get_or, [], List, ℕ}
+use Rattle.std.proofs.Common.{◌≡◌, ap, sym, arith, get_or, [], List, ℕ}
 use Rattle.ctr_drbg.proofs.Fours.{fours_more, value_more}
 use Rattle.ctr_drbg.proofs.Rows.{counted-none, stream-none}
 use Rattle.ctr_drbg.proofs.stream.fill_fours.Goals as goal

@@ -1,4 +1,4 @@
-use Rattle.std.proofs.Common.{◌≡◌, ◌*◌, take, length}
+use Rattle.std.proofs.Common.{◌≡◌, ◌*◌, take}
 use Rattle.ctr_drbg.specs.CtrDrbg.{counted, stream}
 use Rattle.ctr_drbg.proofs.stream.fill_ones.Given as goal
 

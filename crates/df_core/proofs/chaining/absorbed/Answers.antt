@@ -1,4 +1,4 @@
-use Rattle.std.proofs.Common.{◌<◌, ℕ, ap, ◌∙◌, arith, List, get_or, []}
+use Rattle.std.proofs.Common.{ap, ◌∙◌, arith, get_or, []}
 use Rattle.df_core.specs.Df.{chained}
 use Rattle.df_core.proofs.Passes.{same_of_three}
 use Rattle.df_core.proofs.chaining.absorbed.Goals as goal

@@ -1,4 +1,4 @@
-use Rattle.std.proofs.Common.{◌≡◌, ◌+◌, ◌*◌, ◌<◌, ◌++◌, length, take, arith, ap, ◌∙◌, append-nil, get_or, refl, [], ℕ, rules}
+use Rattle.std.proofs.Common.{◌≡◌, ◌+◌, ◌*◌, ◌<◌, ◌++◌, length, take, arith, ◌∙◌, append-nil, get_or, refl, [], rules}
 use Rattle.std.specs.List.{concat}
 use Rattle.std.proofs.lemmas.List.{take_more}
 use Rattle.std.proofs.lemmas.List.Folds.{concat-append}
@@ -12,7 +12,7 @@ chains-preserved c =
     let long : length (get_or c.args.chains.now c.chains.i []) ≡ 16 = search rules in
     let at : 16 * (c.chains.i + 1) ≡ 16 * c.chains.i + length (get_or c.args.chains.now c.chains.i []) = omega arith in
     let more : concat (take (c.chains.i + 1) c.args.chains.now) ≡ concat (take c.chains.i c.args.chains.now) ++ get_or c.args.chains.now c.chains.i [] =
-        rw (take_more chains i [] within, concat-append, append-nil) refl in (
+    rw (take_more chains i [] within, concat-append, append-nil) refl in (
       c.put_at.auto.out ∙ c.chains.invariant.0,
       rw (at, more, ← c.chains.invariant.1) c.put_at.ensures.front,
     )

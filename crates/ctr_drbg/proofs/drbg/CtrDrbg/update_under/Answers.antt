@@ -1,4 +1,4 @@
-use Rattle.std.proofs.Common.{◌≡◌, ◌≤◌, ◌+◌, length, arith}
+use Rattle.std.proofs.Common.{◌≤◌, ◌+◌, length, arith}
 use Rattle.ctr_drbg.specs.State.{working}
 use Rattle.ctr_drbg.proofs.Rows.{update_is}
 use Rattle.ctr_drbg.proofs.drbg.CtrDrbg.update_under.Goals as goal
