@@ -110,6 +110,11 @@ kept_is key keys allowed len bytes =
 pub round_key_is : (keys w s : List ℕ) (m n : ℕ) → 16 * n + 16 ≤ m → take m keys ≡ w → add_round_key keys n s ≡ add_round_key w n s
 round_key_is keys w s m n fits held = sym (add_round_key-take keys m n s fits) ∙ ap (λ (x : List ℕ). add_round_key x n s) held
 
+pub length-after : (w block : List ℕ) (n : ℕ) → length (after_rounds w block n) ≡ 16
+unfolding after_rounds add_round_key
+length-after w block zero = refl
+length-after w block (suc n) = refl
+
 -- one more round
 pub round_more : (keys w block s next : List ℕ) (m n : ℕ) → 1 ≤ n → 16 * n + 16 ≤ m → take m keys ≡ w →
     s ≡ after_rounds w block (n - 1) → next ≡ add_round_key keys n (mix_columns (shift_rows (sub_bytes s))) →

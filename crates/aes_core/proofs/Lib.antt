@@ -5,5 +5,7 @@ pub mod Inverses
 pub mod Lanes
 pub mod Lengths
 pub mod Mixing
+pub mod Powers
+pub mod Rows
 pub mod Sbox
 pub mod Words

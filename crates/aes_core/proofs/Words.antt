@@ -1,9 +1,10 @@
 -- Words of an expanded key as vectors of four bytes.
-use Rattle.std.proofs.Common.{lit<, ◌≡◌, ◌≤◌, ◌+◌, ◌*◌, ℕ, List, [], ◌∷◌, ◌++◌, length, refl, ◌∙◌}
+use Rattle.std.proofs.Common.{lit<, ◌≡◌, ◌≤◌, ◌+◌, ◌*◌, ℕ, List, [], ◌∷◌, ◌++◌, length, map, refl, ◌∙◌}
 use Rattle.std.specs.Prelude.{bit_xor}
 use Rattle.std.specs.Simd.Lanes.{chunk, pick_l, zip2}
 use Rattle.std.proofs.lemmas.Simd.{get_or-chunk, length-chunk}
-use Rattle.aes_core.specs.Aes.{rot_word, sub_bytes, sub_word, word, xor_words}
+use Rattle.aes_core.specs.Field.{sub_byte}
+use Rattle.aes_core.specs.Aes.{rot_word, sub_word, word, xor_words}
 use Rattle.aes_core.proofs.Lanes.{of_each}
 
 -- a list of four bytes is the word of its bytes
@@ -28,9 +29,10 @@ summed_is s t ls lt =
     of_each 4 (λ s. zip2 bit_xor s t ≡ xor_words s t)
     (λ a b c d. of_each 4 (λ t. zip2 bit_xor (a ∷ b ∷ c ∷ d ∷ []) t ≡ xor_words (a ∷ b ∷ c ∷ d ∷ []) t) (λ p q r s. refl) t lt) s ls
 
-abbrev pub four_times : List ℕ
-four_times = 0 ∷ 1 ∷ 2 ∷ 3 ∷ 0 ∷ 1 ∷ 2 ∷ 3 ∷ 0 ∷ 1 ∷ 2 ∷ 3 ∷ 0 ∷ 1 ∷ 2 ∷ 3 ∷ []
+abbrev pub over_a_block : List ℕ
+over_a_block = 0 ∷ 1 ∷ 2 ∷ 3 ∷ 0 ∷ 1 ∷ 2 ∷ 3 ∷ 0 ∷ 1 ∷ 2 ∷ 3 ∷ 0 ∷ 1 ∷ 2 ∷ 3 ∷ []
 
-pub substituted_is : (t : List ℕ) → length t ≡ 4 → chunk 0 4 (sub_bytes (pick_l 0 (t ++ t) four_times)) ≡ sub_word t
-unfolding sub_bytes
-substituted_is t long = of_each 4 (λ t. chunk 0 4 (sub_bytes (pick_l 0 (t ++ t) four_times)) ≡ sub_word t) (λ a b c d. refl) t long
+-- a word, four times in each of four blocks, through the S-box
+pub substituted_is : (t : List ℕ) → length t ≡ 4 →
+    chunk 0 4 (map sub_byte (let b = pick_l 0 (t ++ t) over_a_block in b ++ b ++ b ++ b)) ≡ sub_word t
+substituted_is t long = of_each 4 (λ t. chunk 0 4 (map sub_byte (let b = pick_l 0 (t ++ t) over_a_block in b ++ b ++ b ++ b)) ≡ sub_word t) (λ a b c d. refl) t long

@@ -32,6 +32,10 @@ abbrev pub affine_below : ℕ → ℕ → ℕ
 affine_below y zero = 0
 affine_below y (suc n) = affine_below y n + affine_bit y n * 2 ^ n
 
+-- the affine map of a byte (5.1.1, step 2)
+abbrev pub affine : ℕ → ℕ
+affine y = affine_below y 8
+
 -- S-box: the inverse, and the affine map after it (5.1.1)
 unfoldable pub sub_byte : ℕ → ℕ
-sub_byte x = affine_below (inverse x) 8
+sub_byte x = affine (inverse x)

@@ -1,5 +1,5 @@
 pub mod Field
 pub mod Aes
 pub mod Keys
-pub mod Inversion
 pub mod Examples
+pub mod Code

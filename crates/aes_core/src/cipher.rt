@@ -1,7 +1,7 @@
 // A key that is set up for use.
-use crate::inversion::substituted;
+use crate::four::{first, four_times, joined, parted};
 use crate::keys;
-use crate::rounds::{mixed, shifted, with_key};
+use crate::rounds::{last_round, round, with_first_key};
 use std::marker::Model;
 use std::simd::prelude::*;
 
@@ -30,7 +30,7 @@ impl Model for Aes {
 }
 
 impl Aes {
-    ghost use Rattle.std.specs.Prelude.{◌≡◌, ◌↔◌, length, IsOk, IfErr, IfOk};
+    ghost use Rattle.std.specs.Prelude.{◌≡◌, ◌↔◌, length, map, IsOk, IfErr, IfOk};
     ghost use Rattle.aes_core.specs.Aes.{aes};
     ghost use Rattle.aes_core.specs.Keys.{IsKeyLength};
 
@@ -55,10 +55,27 @@ impl Aes {
         ensures value { block.new ≡ aes self.now block.old }
         ensures key { IsKeyLength (length self.now) }
     {
-        let mut s = with_key(&self.keys, 0, u8x16::from_array(*block));
+        let mut s = with_first_key(&self.keys, u8x16::from_array(*block));
         'rounds: for n in 1..self.rounds {
-            s = with_key(&self.keys, n, mixed(shifted(substituted(s))));
+            s = first(round(&self.keys, n, four_times(s)));
         }
-        *block = with_key(&self.keys, self.rounds, shifted(substituted(s))).to_array();
+        *block = first(last_round(&self.keys, self.rounds, four_times(s))).to_array();
+    }
+
+    /// Replaces each of four blocks of 16 bytes by its encryption (FIPS 197, 5.1).
+    pub fn encrypt4(&self, blocks: &mut [[u8; 16]; 4])
+        ensures value { blocks.new ≡ map (aes self.now) blocks.old }
+        ensures key { IsKeyLength (length self.now) }
+    {
+        let mut s = joined(
+            with_first_key(&self.keys, u8x16::from_array(blocks[0])),
+            with_first_key(&self.keys, u8x16::from_array(blocks[1])),
+            with_first_key(&self.keys, u8x16::from_array(blocks[2])),
+            with_first_key(&self.keys, u8x16::from_array(blocks[3])),
+        );
+        'rounds: for n in 1..self.rounds {
+            s = round(&self.keys, n, s);
+        }
+        *blocks = parted(last_round(&self.keys, self.rounds, s));
     }
 }

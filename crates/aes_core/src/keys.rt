@@ -3,6 +3,7 @@ ghost use Rattle.std.specs.Prelude.{◌≡◌, ◌<◌, ◌≤◌, ◌+◌, ◌-
 ghost use Rattle.aes_core.specs.Aes.{expanded, next_word, rot_word, rounds, sub_word, turned_word, word, xor_words};
 ghost use Rattle.aes_core.specs.Keys.{IsKeyLength};
 
+use crate::four::four_times;
 use crate::inversion::substituted;
 use crate::tables::RCON;
 use std::simd::prelude::*;
@@ -27,12 +28,15 @@ fn rotated(t: u8x4) -> u8x4
     t.swizzle([1, 2, 3, 0])
 }
 
-// SubWord, in four of sixteen lanes.
+// SubWord, in four of the lanes.
 #[inline(always)]
 fn sub_word(t: u8x4) -> u8x4
     ensures { result ≡ sub_word t }
 {
-    substituted(t.swizzle([0, 1, 2, 3, 0, 1, 2, 3, 0, 1, 2, 3, 0, 1, 2, 3])).extract::<0, 4>()
+    substituted(four_times(t.swizzle([0, 1, 2, 3, 0, 1, 2, 3, 0, 1, 2, 3, 0, 1, 2, 3]))).extract::<
+        0,
+        4,
+    >()
 }
 
 // The sum of two words.

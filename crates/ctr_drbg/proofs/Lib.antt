@@ -1,3 +1,4 @@
+pub mod Fours
 pub mod Lengths
 pub mod Rows
 pub mod SeedLemmas

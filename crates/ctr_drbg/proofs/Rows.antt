@@ -1,27 +1,54 @@
 -- Rows of bytes: sums, zeros at the end, and the encryptions of counted values.
-use Rattle.std.proofs.Common.{◌≡◌, ◌<◌, ◌≤◌, ℕ, ◌+◌, ◌-◌, ◌*◌, List, [], ◌∷◌, ◌++◌, length, take, drop, get_or, set, replicate, refl, sym, ap, ◌∙◌, arith, add-one}
+use Rattle.std.proofs.Common.{◌≡◌, ◌<◌, ◌≤◌, ℕ, zero, suc, ◌+◌, ◌/◌, ◌-◌, ◌*◌, List, [], ◌++◌, length, take, drop, replicate, refl, sym, ap, subst, ◌∙◌, arith, add-one, append_assoc, append-nil, length-append}
 use Rattle.std.specs.Prelude.{bit_xor}
-use Rattle.std.specs.Simd.Lanes.{zip2}
-use Rattle.std.proofs.Math.Seq.{take-append-add}
-use Rattle.std.proofs.lemmas.List.{drop-replicate, length-take-le, take-replicate, take_all, take_more, take_more_set}
+use Rattle.std.proofs.Math.Seq.{take-append-add, take-append_seam}
+use Rattle.std.proofs.lemmas.Simd.{length-zip2}
+use Rattle.rbg_bytes.specs.Xor.{xor_bytes}
+use Rattle.std.proofs.lemmas.List.{drop-replicate, drop-take, length-replicate, length-take-le, take-append-le, take-replicate, take_all}
 use Rattle.aes_core.specs.Aes.{aes}
+use Rattle.df_core.specs.Df.{blocks_for}
 use Rattle.ctr_drbg.proofs.Lengths.{length-stream}
-use Rattle.ctr_drbg.specs.CtrDrbg.{counted, plus_one, stream, xor_bytes}
+use Rattle.ctr_drbg.specs.CtrDrbg.{Working, counted, plus_one, stream, update, zero_padded}
 
--- one more place of a sum
-zip2_push : (xs ys : List ℕ) (x y : ℕ) → length xs ≡ length ys → zip2 bit_xor (xs ++ x ∷ []) (ys ++ y ∷ []) ≡ zip2 bit_xor xs ys ++ bit_xor x y ∷ []
-zip2_push [] [] x y e = refl
-zip2_push [] (b ∷ ys) x y e = absurd (omega arith)
-zip2_push (a ∷ xs) [] x y e = absurd (omega arith)
-zip2_push (a ∷ xs) (b ∷ ys) x y e = ap (λ (t : List ℕ). bit_xor a b ∷ t) (zip2_push xs ys x y (omega arith))
+-- the front of two parts
+pub front_of : (n : ℕ) (front rest : List ℕ) → length front ≡ n → take n (front ++ rest) ≡ front
+front_of n front rest long = subst (λ (k : ℕ). take k (front ++ rest) ≡ front) long (take-append_seam front rest)
 
-pub xor_more : (sum a b : List ℕ) (i : ℕ) → i < length sum → i < length a → i < length b → take i sum ≡ xor_bytes (take i a) (take i b) →
-    take (i + 1) (set sum i (bit_xor (get_or a i 0) (get_or b i 0))) ≡ xor_bytes (take (i + 1) a) (take (i + 1) b)
-xor_more sum a b i room in_a in_b so_far =
-    let la = length-take-le i a (omega arith) in
-    let lb = length-take-le i b (omega arith) in
-    rw (take_more a i 0 in_a, take_more b i 0 in_b, zip2_push (take i a) (take i b) (get_or a i 0) (get_or b i 0) (la ∙ sym lb))
-    (take_more_set sum i (bit_xor (get_or a i 0) (get_or b i 0)) room ∙ ap (λ (t : List ℕ). t ++ bit_xor (get_or a i 0) (get_or b i 0) ∷ []) so_far)
+-- a key and a block behind it, in a row of bytes with others behind them
+pub key_and_block : (k : ℕ) (both rest : List ℕ) → length both ≡ k + 16 →
+    (take k (both ++ rest) ≡ take k both) × (take 16 (drop k (both ++ rest)) ≡ drop k both)
+key_and_block k both rest long =
+    let front : take (k + 16) (both ++ rest) ≡ both = front_of (k + 16) both rest long in (
+      take-append-le k both rest (omega (arith, long)),
+      sym (drop-take k 16 (both ++ rest)) ∙ ap (drop k) front,
+    )
+
+-- what the update makes of a state, in a buffer that is xored in place
+pub update_is : (s : Working) (held provided sum key value : List ℕ) → length s.key + 16 ≤ length held → length provided ≡ length s.key + 16 →
+    take (length s.key + 16) held ≡ take (length s.key + 16) (stream s.key s.value (blocks_for (length s.key + 16))) →
+    sum ≡ xor_bytes (take (length s.key + 16) held) provided → key ≡ take (length s.key) (sum ++ drop (length s.key + 16) held) →
+    value ≡ take 16 (drop (length s.key) (sum ++ drop (length s.key + 16) held)) → record { key = key; value = value } ≡ update provided s
+unfolding update
+update_is s held provided sum key value fits same front is_sum is_key is_value =
+    let n = length s.key + 16 in
+    let long = length-take-le (length s.key + 16) held fits in
+    let size : length sum ≡ length s.key + 16 = ap length is_sum ∙ (length-zip2 bit_xor (take n held) provided (long ∙ sym same) ∙ long) in
+    let both = key_and_block (length s.key) sum (drop n held) size in
+    let temp : sum ≡ xor_bytes (take (length s.key + 16) (stream s.key s.value (blocks_for (length s.key + 16)))) provided =
+    is_sum ∙ ap (λ (x : List ℕ). xor_bytes x provided) front in
+    rw (is_key, is_value, both.0, both.1, temp) refl
+
+pub length-zero_padded : (n : ℕ) (bytes : List ℕ) → length bytes ≤ n → n ≡ length (zero_padded n bytes)
+length-zero_padded n bytes fits = simp (length-append, length-replicate {A = ℕ}) (omega arith)
+
+-- the sum of a row and of another with zeros after it, in a buffer that is xored in place
+pub padded_sum_is : (bytes string held sum result : List ℕ) (n : ℕ) → length bytes ≡ n → length string ≤ n → take (length bytes) held ≡ bytes →
+    sum ≡ xor_bytes (take n held) (zero_padded n string) → result ≡ take n (sum ++ drop n held) → result ≡ xor_bytes bytes (zero_padded n string)
+padded_sum_is bytes string held sum result n same fits front is_sum is =
+    let held_is : take n held ≡ bytes = ap (λ (k : ℕ). take k held) (sym same) ∙ front in
+    let sum_is : sum ≡ xor_bytes bytes (zero_padded n string) = is_sum ∙ ap (λ (x : List ℕ). xor_bytes x (zero_padded n string)) held_is in
+    let size : length sum ≡ n = ap length sum_is ∙ (length-zip2 bit_xor bytes (zero_padded n string) (same ∙ length-zero_padded n string fits) ∙ same) in
+    is ∙ (front_of n sum (drop n held) size ∙ sum_is)
 
 padded_by : (bs : List ℕ) (k n : ℕ) → k ≤ n → take (length bs + k) (bs ++ replicate n 0) ≡ bs ++ replicate k 0
 padded_by bs k n h = take-append-add bs (replicate n 0) k ∙ ap (λ (x : List ℕ). bs ++ x) (take-replicate k n 0 h)
@@ -51,23 +78,73 @@ unfolding stream
 stream-more key v n = rw add-one refl
 
 -- n bytes of two parts, where the first has no more than n
-two_parts : (front back : List ℕ) (n : ℕ) → length front ≤ n → take n (front ++ back) ≡ front ++ take (n - length front) back
+pub two_parts : (front back : List ℕ) (n : ℕ) → length front ≤ n → take n (front ++ back) ≡ front ++ take (n - length front) back
 two_parts front back n fits =
     let e : length front + (n - length front) ≡ n = omega arith in
     ap (λ (m : ℕ). take m (front ++ back)) (sym e) ∙ take-append-add front back (n - length front)
 
 -- one block more of the bytes
-pub fill_more : (key v out after : List ℕ) (i : ℕ) → 16 * i ≤ length out → length after ≡ length out →
-    take (16 * i) out ≡ take (length out) (stream key v i) →
-    take (16 * i + 16) after ≡ take (16 * i) out ++ take (length out - 16 * i) (aes key (counted v (i + 1))) →
-    take (16 * (i + 1)) after ≡ take (length after) (stream key v (i + 1))
-fill_more key v out after i fits same so_far put =
-    let g = stream key v i in
-    let block = aes key (counted v (i + 1)) in
-    let lg : length (stream key v i) ≡ 16 * i = length-stream key v i in
-    let at : 16 * (i + 1) ≡ 16 * i + 16 = omega arith in
-    let le : length (stream key v i) ≤ length out = omega (arith, lg) in
-    let split = two_parts g block (length out) le in
-    let front : take (length out) (stream key v i) ≡ stream key v i = take_all (length out) g le in
-    let split2 : take (length out) (stream key v i ++ aes key (counted v (i + 1))) ≡ stream key v i ++ take (length out - 16 * i) (aes key (counted v (i + 1))) = rw lg at split in
-    rw (at, same, stream-more key v i) (put ∙ (ap (λ (x : List ℕ). x ++ take (length out - 16 * i) block) (so_far ∙ front) ∙ sym split2))
+pub block_more : (key v block out after : List ℕ) (i : ℕ) → take (16 * i) out ≡ stream key v i → block ≡ aes key (counted v (i + 1)) →
+    length block ≡ 16 → take (16 * i + length block) after ≡ take (16 * i) out ++ block → take (16 * (i + 1)) after ≡ stream key v (i + 1)
+block_more key v block out after i so_far is long put =
+    let at : 16 * (i + 1) ≡ 16 * i + length block = omega (arith, long) in
+    rw (at, stream-more key v i, ← so_far, ← is) put
+
+-- all bytes, where they are whole blocks
+pub whole_blocks : (key v out : List ℕ) (n : ℕ) → 16 * (n / 16) ≡ n → length out ≡ n → take (16 * (n / 16)) out ≡ stream key v (n / 16) →
+    out ≡ take n (stream key v (blocks_for n))
+whole_blocks key v out n whole long held =
+    let blocks : blocks_for n ≡ n / 16 = omega arith in
+    let all : take (16 * (n / 16)) out ≡ out = take_all (16 * (n / 16)) out (omega arith) in
+    let le : length (stream key v (n / 16)) ≤ n = omega (arith, length-stream key v (n / 16)) in
+    sym all ∙ (held ∙ (sym (take_all n (stream key v (n / 16)) le) ∙ ap (λ (k : ℕ). take n (stream key v k)) (sym blocks)))
+
+-- all bytes, where the last block is cut
+pub last_block : (key v block out after : List ℕ) (n : ℕ) → 16 * (n / 16) < n → length out ≡ n → length after ≡ n →
+    take (16 * (n / 16)) out ≡ stream key v (n / 16) → block ≡ aes key (counted v (n / 16 + 1)) → length block ≡ 16 →
+    take (16 * (n / 16) + length block) after ≡ take (16 * (n / 16)) out ++ take (length out - 16 * (n / 16)) block →
+    after ≡ take n (stream key v (blocks_for n))
+last_block key v block out after n cut long same held is size put =
+    let g = stream key v (n / 16) in
+    let blocks : blocks_for n ≡ n / 16 + 1 = omega arith in
+    let lg : length (stream key v (n / 16)) ≡ 16 * (n / 16) = length-stream key v (n / 16) in
+    let le : length (stream key v (n / 16)) ≤ n = omega (arith, lg) in
+    let all : take (16 * (n / 16) + length block) after ≡ after = take_all (16 * (n / 16) + length block) after (omega (arith, size)) in
+    let rest : length out - 16 * (n / 16) ≡ n - length (stream key v (n / 16)) = omega (arith, lg) in
+    sym all ∙ (put ∙ (ap (λ (x : List ℕ). x ++ take (length out - 16 * (n / 16)) block) held
+    ∙ (ap (λ (k : ℕ). stream key v (n / 16) ++ take k block) rest
+    ∙ (sym (two_parts g block n le) ∙ (ap (λ (b : List ℕ). take n (stream key v (n / 16) ++ b)) is
+    ∙ sym (ap (λ (k : ℕ). take n (stream key v k)) blocks ∙ ap (take n) (stream-more key v (n / 16))))))))
+
+-- ---- the values after V in two goes
+
+pub counted-add : (v : List ℕ) (m n : ℕ) → counted v (m + n) ≡ counted (counted v m) n
+unfolding counted
+counted-add v m zero =
+    let e : m + zero ≡ m = omega arith in
+    rw e refl
+counted-add v m (suc n) =
+    let e : m + suc n ≡ suc (m + n) = omega arith in
+    rw e (ap plus_one (counted-add v m n))
+
+pub stream-append : (key v : List ℕ) (m n : ℕ) → stream key v (m + n) ≡ stream key v m ++ stream key (counted v m) n
+unfolding stream counted
+stream-append key v m zero =
+    let e : m + zero ≡ m = omega arith in
+    rw (e, append-nil) refl
+stream-append key v m (suc n) =
+    let e : m + suc n ≡ suc (m + n) = omega arith in
+    let last : counted v (suc (m + n)) ≡ counted (counted v m) (suc n) = ap plus_one (counted-add v m n) in
+    rw e
+    (ap (λ (x : List ℕ). x ++ aes key (counted v (suc (m + n)))) (stream-append key v m n)
+    ∙ (ap (λ (x : List ℕ). (stream key v m ++ stream key (counted v m) n) ++ aes key x) last
+    ∙ append_assoc (stream key v m) (stream key (counted v m) n) (aes key (counted (counted v m) (suc n)))))
+
+-- the bytes of so many blocks begin with those of fewer
+pub stream-front : (key v : List ℕ) (n m : ℕ) → blocks_for n ≤ m → take n (stream key v m) ≡ take n (stream key v (blocks_for n))
+stream-front key v n m few =
+    let e : blocks_for n + (m - blocks_for n) ≡ m = omega arith in
+    let front = stream key v (blocks_for n) in
+    let le : n ≤ length (stream key v (blocks_for n)) = omega (arith, length-stream key v (blocks_for n)) in
+    ap (λ (k : ℕ). take n (stream key v k)) (sym e)
+    ∙ (ap (take n) (stream-append key v (blocks_for n) (m - blocks_for n)) ∙ take-append-le n front _ le)

@@ -1,8 +1,8 @@
 -- CTR_DRBG on lists of bytes, without the reseed counter. The counter field has 128 bits.
 -- SP 800-90A Rev. 1, 10.2.1.
-use Rattle.std.specs.Prelude.{ℕ, zero, suc, ◌+◌, ◌-◌, ◌%◌, ◌^◌, List, [], ◌∷◌, ◌++◌, length, take, drop, replicate, bit_xor}
+use Rattle.std.specs.Prelude.{ℕ, zero, suc, ◌+◌, ◌-◌, ◌%◌, ◌^◌, List, [], ◌∷◌, ◌++◌, length, take, drop, replicate}
 use Rattle.std.specs.Int.{w128, to_be_bytes, from_be_bytes}
-use Rattle.std.specs.Simd.Lanes.{zip2}
+use Rattle.rbg_bytes.specs.Xor.{xor_bytes}
 use Rattle.ctr_drbg.specs.declared.seeds.Mode.{Mode}
 use Rattle.ctr_drbg.specs.declared.seeds.Mode.TheVariants.{UseDf, NoDf}
 use Rattle.aes_core.specs.Aes.{aes}
@@ -26,10 +26,6 @@ counted v (suc n) = plus_one (counted v n)
 unfoldable pub stream : List ℕ → List ℕ → ℕ → List ℕ
 stream key v zero = []
 stream key v (suc n) = stream key v n ++ aes key (counted v (suc n))
-
--- the sum of two rows of bytes
-abbrev pub xor_bytes : List ℕ → List ℕ → List ℕ
-xor_bytes a b = zip2 bit_xor a b
 
 -- seedlen, for a key of so many bytes
 abbrev pub seed_len : ℕ → ℕ

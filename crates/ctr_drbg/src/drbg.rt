@@ -7,11 +7,11 @@ ghost use Rattle.ctr_drbg.specs.State.{working, IsWellFormed};
 ghost use Rattle.ctr_drbg.specs.Lengths.{bad_length, FitsSeed};
 ghost use Rattle.ctr_drbg.specs.Refusals.{generate_refusal};
 
-use crate::seeds::{BadSeedLength, Mode, keylen_of, seed_of, stretched, zeros};
-use crate::stream::{block_at, fill, seed_stream, xor_bytes};
+use crate::seeds::{BadSeedLength, Mode, check_string, keylen_of, seed_of, stretched, zeros};
+use crate::stream::{block_at, fill, seed_stream};
 use aes_core::Aes;
 use df_core::KeyLen;
-use rbg_bytes::Fixed;
+use rbg_bytes::{Fixed, xor_bytes};
 
 /// The working state Key and V, the reseed counter, and whether the derivation function is used (SP 800-90A Rev. 1,
 /// 10.2.1.1). The key has 16, 24 or 32 bytes. The counter is 1 after an instantiation or a reseed, and grows by 1 with each
@@ -110,11 +110,8 @@ impl CtrDrbg {
             });
         }
         let want = self.key.as_slice().len() + 16;
-        if self.mode == Mode::NoDf && add.len() > want {
-            return Err(CtrRefusal::BadSeedLength {
-                len: add.len(),
-                want,
-            });
+        if let Err(BadSeedLength { len, want }) = check_string(self.mode, want, add) {
+            return Err(CtrRefusal::BadSeedLength { len, want });
         }
         self.give(add, out);
         self.counter += 1;
@@ -199,9 +196,9 @@ impl CtrDrbg {
         ensures key { length self.new.key ≡ length self.old.key }
     {
         let keylen = self.key.as_slice().len();
-        let bytes = seed_stream(aes, self.v, keylen + 16);
-        let temp = xor_bytes(bytes.as_slice(), provided);
-        self.key = Fixed::of(&temp.as_slice()[..keylen]);
-        self.v = block_at(temp.as_slice(), keylen);
+        let mut temp = seed_stream(aes, self.v, keylen + 16);
+        xor_bytes(&mut temp[..keylen + 16], provided);
+        self.key = Fixed::of(&temp[..keylen]);
+        self.v = block_at(&temp, keylen);
     }
 }

@@ -2,7 +2,7 @@
 //!
 //! - `drbg`: the working state with its reseed counter, and the calls instantiate, reseed and generate;
 //! - `seeds`: what the update is given, with the derivation function and without, and which lengths are refused;
-//! - `stream`: the encryptions of V + 1, V + 2 and so on;
+//! - `stream`: the encryptions of V + 1, V + 2 and so on, four at once where there are as many;
 //! - `laws`: what follows from the definitions alone.
 //!
 //! A key is expanded once for the output of a generate and the update that follows it.

@@ -3,12 +3,12 @@ ghost use Rattle.std.specs.Prelude.{◌≡◌, ◌≤◌, ◌+◌, ◌++◌, len
 ghost use Rattle.aes_core.specs.Keys.{IsKeyLength};
 ghost use Rattle.df_core.specs.KeyLen.{key_bytes};
 ghost use Rattle.df_core.specs.Df.{df};
-ghost use Rattle.ctr_drbg.specs.CtrDrbg.{first_seed, seed_len, stretched, xor_bytes, zero_padded};
-ghost use Rattle.ctr_drbg.specs.Lengths.{bad_length, FitsSeed};
+ghost use Rattle.rbg_bytes.specs.Xor.{xor_bytes};
+ghost use Rattle.ctr_drbg.specs.CtrDrbg.{first_seed, seed_len, stretched, zero_padded};
+ghost use Rattle.ctr_drbg.specs.Lengths.{bad_length, long_string, FitsSeed};
 
-use crate::stream::xor_bytes;
 use df_core::{Df, KeyLen};
-use rbg_bytes::Fixed;
+use rbg_bytes::{Fixed, put_front, xor_bytes};
 
 /// Whether CTR_DRBG uses the derivation function Block_Cipher_df (SP 800-90A Rev. 1, 10.2.1).
 #[derive(Clone, Copy, Debug, PartialEq, Eq)]
@@ -94,6 +94,17 @@ pub(crate) fn stretched(mode: Mode, keylen: KeyLen, add: &[u8]) -> Fixed<64>
     }
 }
 
+// Without the derivation function: whether a string has at most seedlen bytes, `want`.
+pub(crate) fn check_string(mode: Mode, want: usize, string: &[u8]) -> Result<(), BadSeedLength>
+    ensures { MatchOption (long_string mode want string.now) (IsOk result) (λ len. IsErrOf result (record { len = len; want = want })) }
+{
+    let len = string.len();
+    if mode == Mode::NoDf && len > want {
+        return Err(BadSeedLength { len, want });
+    }
+    Ok(())
+}
+
 // Without the derivation function: whether the lengths are as they must be, the entropy's first.
 fn check_lengths(
     mode: Mode,
@@ -103,22 +114,11 @@ fn check_lengths(
 ) -> Result<(), BadSeedLength>
     ensures { MatchOption (bad_length mode want entropy.now string.now) (IsOk result) (λ len. IsErrOf result (record { len = len; want = want })) }
 {
-    if mode == Mode::UseDf {
-        return Ok(());
+    let len = entropy.len();
+    if mode == Mode::NoDf && len != want {
+        return Err(BadSeedLength { len, want });
     }
-    if entropy.len() != want {
-        return Err(BadSeedLength {
-            len: entropy.len(),
-            want,
-        });
-    }
-    if string.len() > want {
-        return Err(BadSeedLength {
-            len: string.len(),
-            want,
-        });
-    }
-    Ok(())
+    check_string(mode, want, string)
 }
 
 // The sum of a row of bytes and of another with zeros after it.
@@ -129,9 +129,10 @@ fn padded_sum(bytes: &[u8], string: &[u8], n: usize) -> Fixed<64>
     ensures bytes { result ≡ xor_bytes bytes.now (zero_padded n string.now) }
     ensures long { length result ≡ n }
 {
-    let padded = zero_padded(string, n);
-    let sum = xor_bytes(bytes, padded.as_slice());
-    Fixed::of(sum.as_slice())
+    let mut sum = [0u8; 48];
+    put_front(&mut sum, bytes);
+    xor_bytes(&mut sum[..n], zero_padded(string, n).as_slice());
+    Fixed::of(&sum[..n])
 }
 
 // What an instantiation gives the update; with an empty nonce, what a reseed does.

@@ -1,5 +1,6 @@
 // Outputs that an independent implementation gives, and the refusals.
 use crate::{BadSeedLength, CtrDrbg, CtrRefusal, KeyLen, Mode};
+use aes_core::Aes;
 use rbg_bytes::Fixed;
 use std::test::Fail;
 
@@ -246,5 +247,89 @@ fn lengths_and_the_interval_are_refused_in_order(rt: HostRuntime) -> Result<(), 
         )
     );
     assert_eq!(rt; out, after);
+    Ok(())
+}
+
+// Lengths about whole blocks and about four of them.
+const LENGTHS: [u16; 11] = [0, 1, 15, 16, 17, 63, 64, 65, 127, 128, 129];
+
+// Whether the bytes are the encryptions of V + 1, V + 2 and so on, made one by one.
+fn are_encryptions(out: &[u8], aes: &Aes, v: [u8; 16]) -> bool {
+    let mut value = u128::from_be_bytes(v);
+    for piece in out.chunks(16) {
+        value = value.wrapping_add(1);
+        let mut block = value.to_be_bytes();
+        aes.encrypt(&mut block);
+        if block.get(..piece.len()) != Some(piece) {
+            return false;
+        }
+    }
+    true
+}
+
+#[test]
+fn each_block_about_the_wrap_has_its_own_value(rt: HostRuntime) -> Result<(), Fail> {
+    let aes = Aes::new(&COUNTING[..32])?;
+    let mut whole = [0u8; 65536];
+    for last in 0xf8..=0xffu8 {
+        let mut v = [0xff; 16];
+        v[15] = last;
+        for len in LENGTHS {
+            let mut drbg = CtrDrbg {
+                key: Fixed::of(&COUNTING[..32]),
+                v,
+                counter: 1,
+                mode: Mode::NoDf,
+            };
+            let out = &mut whole[..len as usize];
+            drbg.generate(&[], 1, out)?;
+            assert!(rt; are_encryptions(out, &aes, v));
+        }
+        let mut drbg = CtrDrbg {
+            key: Fixed::of(&COUNTING[..32]),
+            v,
+            counter: 1,
+            mode: Mode::NoDf,
+        };
+        drbg.generate(&[], 1, &mut whole)?;
+        assert!(rt; are_encryptions(&whole, &aes, v));
+    }
+    Ok(())
+}
+
+// The first bytes of a generate of AES-256 with the derivation function, entropy 00 to 1f and nonce 20 to 2f.
+const FRONT: [u8; 65] = [
+    0x7a, 0xd7, 0xf0, 0x61, 0x2b, 0x3e, 0xef, 0x3e, 0x51, 0xf8, 0xb3, 0x51, 0x7d, 0xec, 0xa5, 0x8d,
+    0xf1, 0xdb, 0xb9, 0x77, 0x83, 0xe8, 0xb2, 0x93, 0x03, 0x34, 0xc5, 0xc7, 0x6c, 0xd7, 0x16, 0x12,
+    0x68, 0xf0, 0x55, 0xe6, 0x4d, 0xc8, 0x11, 0xda, 0x09, 0x3a, 0xf4, 0xd3, 0x6c, 0x94, 0x39, 0x82,
+    0xe7, 0x35, 0x34, 0x53, 0x32, 0x39, 0xdd, 0xcd, 0xe7, 0x2c, 0x40, 0x66, 0x2e, 0x15, 0x11, 0x79,
+    0x19,
+];
+
+#[test]
+fn a_shorter_output_is_the_front_of_a_longer_one(rt: HostRuntime) -> Result<(), Fail> {
+    let mut whole = [0u8; 65536];
+    let mut drbg = CtrDrbg::instantiate(
+        Mode::UseDf,
+        KeyLen::K32,
+        &COUNTING[..32],
+        &COUNTING[32..48],
+        &[],
+    )?;
+    drbg.generate(&[], 1, &mut whole)?;
+    assert!(rt; whole.starts_with(&FRONT));
+    let mut short = [0u8; 129];
+    for len in LENGTHS {
+        let mut drbg = CtrDrbg::instantiate(
+            Mode::UseDf,
+            KeyLen::K32,
+            &COUNTING[..32],
+            &COUNTING[32..48],
+            &[],
+        )?;
+        let out = short.get_mut(..len as usize).ok_or("too long")?;
+        drbg.generate(&[], 1, out)?;
+        assert!(rt; whole.starts_with(out));
+    }
     Ok(())
 }

@@ -6,12 +6,8 @@ use Rattle.std.proofs.lemmas.List.{drop-take, take-take, length-replicate}
 use Rattle.std.proofs.lemmas.List.Elements.{All-head, All-push, All-tail}
 use Rattle.std.proofs.lemmas.List.Folds.{concat-append}
 use Rattle.std.proofs.Math.Seq.{drop-append_seam, take-append_seam, take-suc}
-use Rattle.aes_core.specs.Aes.{add_round_key, aes, encrypted}
-use Rattle.df_core.specs.Df.{blocks_for, blocks_of, chained, df_header, df_string, first_blocks, first_key, passes, temp_of, turned, turns, xor_blocks}
-use Rattle.df_core.specs.KeyLen.{key_bytes}
-use Rattle.df_core.specs.declared.key_len.KeyLen.{KeyLen}
-use Rattle.df_core.specs.declared.key_len.KeyLen.TheVariants.{K16, K24, K32}
-use Rattle.std.proofs.Common.{lit≤}
+use Rattle.aes_core.specs.Aes.{aes}
+use Rattle.df_core.specs.Df.{blocks_for, blocks_of, chained, df_header, df_string, first_blocks, first_key, passes, temp_of, turned, turns}
 use Rattle.df_core.specs.Chains.{AreChained}
 use Rattle.df_core.specs.Holds.{IsCut}
 use Rattle.df_core.proofs.Cutting.{chained_block}
@@ -31,6 +27,13 @@ turns-none key x = refl
 pub turns-more : (key x : List ℕ) (n : ℕ) → turns key x (n + 1) ≡ turns key x n ++ turned key x (n + 1)
 unfolding turns
 turns-more key x n = rw add-one refl
+
+-- the X of one turn more is put behind those before it
+pub one_more : (key x block out after : List ℕ) (i : ℕ) → take (16 * i) out ≡ turns key x i → block ≡ turned key x (i + 1) → length block ≡ 16 →
+    take (16 * i + length block) after ≡ take (16 * i) out ++ block → take (16 * (i + 1)) after ≡ turns key x (i + 1)
+one_more key x block out after i held is long put =
+    let at : 16 * (i + 1) ≡ 16 * i + length block = omega (arith, long) in
+    rw (at, turns-more key x i, ← held, ← is) put
 
 -- whole blocks in a row are cut at the same places
 first_blocks-concat : (bs : List (List ℕ)) → All (λ b. length b ≡ 16) bs → first_blocks (length bs) (concat bs) ≡ bs
@@ -76,14 +79,6 @@ passes_are key chains blocks (suc n) few held =
     let within : n < length chains = omega arith in
     rw (take-suc chains n [] within, concat-append, append-nil, before, held n (omega arith)) refl
 
-length-aes : (key block : List ℕ) → length (aes key block) ≡ 16
-unfolding aes encrypted add_round_key
-length-aes key block = refl
-
-length-chained : (key v b : List ℕ) → length (chained key v b) ≡ 16
-unfolding chained
-length-chained key v b = length-aes key (xor_blocks v b)
-
 -- the bytes of a row of passes
 pub temp_is : (temp ends key : List ℕ) (keylen n : ℕ) → n ≡ blocks_for (keylen + 16) → take (16 * n) temp ≡ ends →
     (take keylen temp ≡ take keylen ends) × (take 16 (drop keylen temp) ≡ take 16 (drop keylen ends))
@@ -108,8 +103,3 @@ finished input rest temp block key chains after blocks keylen total want fill n 
     let ends : take (16 * n) temp ≡ passes key (blocks ++ block ∷ []) n = front ∙ passes_are key after (blocks ++ block ∷ []) n room more in
     let whole : take (16 * n) temp ≡ passes (first_key keylen) (blocks_of (df_string input want)) (blocks_for (keylen + 16)) = rw (cut_is, ← key_is, ← n_is) ends in
     temp_is temp (passes (first_key keylen) (blocks_of (df_string input want)) (blocks_for (keylen + 16))) key keylen n n_is whole
-
-pub few_passes : (k : KeyLen) → blocks_for (key_bytes k + 16) ≤ 3
-few_passes K16 = lit≤ tt
-few_passes K24 = lit≤ tt
-few_passes K32 = lit≤ tt

@@ -1,17 +1,14 @@
 -- BCC and Block_Cipher_df on lists of bytes, with AES as the block cipher.
 -- SP 800-90A Rev. 1, 10.3.2 and 10.3.3.
-use Rattle.std.specs.Prelude.{ℕ, zero, suc, ◌+◌, ◌-◌, ◌/◌, ◌%◌, List, [], ◌∷◌, ◌++◌, length, map, fold, take, drop, replicate, slice_index, bit_xor}
+use Rattle.std.specs.Prelude.{ℕ, zero, suc, ◌+◌, ◌-◌, ◌/◌, ◌%◌, List, [], ◌∷◌, ◌++◌, length, fold, take, drop, replicate}
 use Rattle.std.specs.List.{range_with_len}
 use Rattle.std.specs.Int.{w32, to_be_bytes}
 use Rattle.aes_core.specs.Aes.{aes}
-
--- the sum of two blocks
-abbrev pub xor_blocks : List ℕ → List ℕ → List ℕ
-xor_blocks a b = map (λ i. bit_xor (slice_index a i) (slice_index b i)) (range_with_len 0 16)
+use Rattle.rbg_bytes.specs.Xor.{xor_bytes}
 
 -- one step of BCC: the block is added to the chaining value, and the sum encrypted (10.3.3)
 unfoldable pub chained : List ℕ → List ℕ → List ℕ → List ℕ
-chained key value block = aes key (xor_blocks value block)
+chained key value block = aes key (xor_bytes value block)
 
 -- BCC: from a block of zeros through all blocks in order (10.3.3)
 abbrev pub bcc : List ℕ → List (List ℕ) → List ℕ

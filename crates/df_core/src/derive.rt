@@ -4,9 +4,9 @@ ghost use Rattle.df_core.specs.KeyLen.{key_bytes};
 ghost use Rattle.df_core.specs.Df.{blocks_for, first_key, turns};
 
 use crate::KeyLen;
-use crate::chaining::{absorbed, first_chains, joined, put};
+use crate::chaining::{absorbed, first_chains, joined};
 use aes_core::Aes;
-use rbg_bytes::Fixed;
+use rbg_bytes::{Fixed, put_at};
 
 // The bytes 00, 01, 02 and so on (10.3.2, step 8).
 const COUNTING: [u8; 32] = [
@@ -36,15 +36,6 @@ fn last_block(buf: &[u8; 16], fill: usize) -> [u8; 16]
     block
 }
 
-// Puts a piece into a block at a place.
-fn put_piece(block: &mut [u8; 16], at: usize, piece: &[u8])
-    requires { at + length piece.now ≤ 16 }
-    ensures front { take (at + length piece.now) block.new ≡ take at block.old ++ piece.now }
-    ensures long { length block.new ≡ 16 }
-{
-    block[at..at + piece.len()].copy_from_slice(piece);
-}
-
 // The bytes that come of a key and a block X (10.3.2, steps 12 to 14).
 fn output(aes: &Aes, x: [u8; 16], want: usize) -> Fixed<64>
     requires { want ≤ 64 }
@@ -54,7 +45,7 @@ fn output(aes: &Aes, x: [u8; 16], want: usize) -> Fixed<64>
     let mut out = [0u8; 64];
     'turns: for i in 0..(want + 15) / 16 {
         aes.encrypt(&mut x);
-        put(&mut out, 16 * i, &x);
+        put_at(&mut out, 16 * i, &x);
     }
     Fixed::of(&out[..want])
 }
@@ -101,7 +92,7 @@ impl Df {
         ensures { (keylen want : ℕ) (text : List ℕ) → HoldsText self.old keylen want text
             → HoldsText self.new keylen want (text ++ piece.now) }
     {
-        put_piece(&mut self.buf, self.fill, piece);
+        put_at(&mut self.buf, self.fill, piece);
         let fill = self.fill + piece.len();
         if fill < 16 {
             self.fill = fill;

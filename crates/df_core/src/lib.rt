@@ -6,7 +6,7 @@
 //! - `laws`: what follows from the definitions alone.
 //!
 //! The standard makes S of the whole input and runs BCC over it once for each block that it needs. `Df` keeps no input: it
-//! keeps one chaining value for each of these passes, and brings them all up by each block of S as it comes.
+//! keeps one chaining value for each of these passes, and brings them all up by each block of S as it comes, three at once.
 #![tactic(auto)]
 
 mod chaining;

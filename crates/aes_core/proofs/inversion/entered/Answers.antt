@@ -1,6 +1,6 @@
 use Rattle.std.proofs.Common.{bit_xor}
 use Rattle.std.proofs.lemmas.Simd.{zip2_of_maps}
-use Rattle.aes_core.specs.Inversion.{look, lower_of, upper_of}
+use Rattle.aes_core.specs.Code.Inversion.{look, lower_of, upper_of}
 use Rattle.aes_core.specs.declared.tables.TheConstants.{IN_HIGH, IN_LOW}
 use Rattle.aes_core.proofs.Lanes.{after, reads}
 use Rattle.aes_core.proofs.inversion.entered.Goals as goal

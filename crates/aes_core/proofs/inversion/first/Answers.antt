@@ -1,6 +1,6 @@
 use Rattle.std.proofs.Common.{bit_xor}
 use Rattle.std.proofs.lemmas.Simd.{zip2_of_maps}
-use Rattle.aes_core.specs.Inversion.{look, first_place, sum_of}
+use Rattle.aes_core.specs.Code.Inversion.{look, first_place, sum_of}
 use Rattle.aes_core.specs.declared.tables.TheConstants.{INVERSE}
 use Rattle.aes_core.proofs.Lanes.{after, reads}
 use Rattle.aes_core.proofs.inversion.first.Goals as goal

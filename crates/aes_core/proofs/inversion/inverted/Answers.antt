@@ -1,6 +1,6 @@
 use Rattle.std.proofs.Common.{bit_xor}
 use Rattle.std.proofs.lemmas.Simd.{zip2_of_maps}
-use Rattle.aes_core.specs.Inversion.{first_of, look, second_of}
+use Rattle.aes_core.specs.Code.Inversion.{first_of, look, second_of}
 use Rattle.aes_core.specs.declared.tables.TheConstants.{OUT_FIRST, OUT_SECOND}
 use Rattle.aes_core.proofs.Lanes.{after, reads, with_splat}
 use Rattle.aes_core.proofs.inversion.inverted.Goals as goal

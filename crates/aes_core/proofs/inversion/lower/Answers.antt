@@ -3,4 +3,4 @@ use Rattle.std.proofs.lemmas.Simd.{zip2_splat}
 use Rattle.aes_core.proofs.inversion.lower.Goals as goal
 
 pub returns : goal.returns
-returns c = zip2_splat bit_and c.args.v 16 15 c.fits-v.0
+returns c = zip2_splat bit_and c.args.v 64 15 c.fits-v.0

@@ -1,4 +1,4 @@
-use Rattle.aes_core.specs.Inversion.{look, lower_of}
+use Rattle.aes_core.specs.Code.Inversion.{look, lower_of}
 use Rattle.aes_core.specs.declared.tables.TheConstants.{SHARE}
 use Rattle.aes_core.proofs.Lanes.{after, reads}
 use Rattle.aes_core.proofs.inversion.share.Goals as goal

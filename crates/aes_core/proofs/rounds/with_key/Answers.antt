@@ -1,4 +1,4 @@
-use Rattle.std.proofs.Common.{◌-◌, ◌*◌, bit_xor, drop, ap, ◌∙◌, arith}
+use Rattle.std.proofs.Common.{◌-◌, ◌*◌, ◌++◌, List, ℕ, bit_xor, drop, ap, ◌∙◌, arith}
 use Rattle.std.proofs.lemmas.List.{take-take}
 use Rattle.std.specs.Simd.Lanes.{zip2}
 use Rattle.aes_core.proofs.Mixing.{with_key_is}
@@ -8,5 +8,6 @@ pub returns : goal.returns
 returns c =
     let keys = c.args.keys.now in
     let n = c.args.n in
-    ap (zip2 bit_xor c.args.s) (take-take 16 (240 - 16 * n) (drop (16 * n) keys) (omega arith))
-    ∙ with_key_is keys c.args.s n c.fits-s.0 (omega arith)
+    let key = take-take 16 (240 - 16 * n) (drop (16 * n) keys) (omega arith) in
+    rw c.four_times.ensures
+    (ap (λ (k : List ℕ). zip2 bit_xor c.args.s (k ++ k ++ k ++ k)) key ∙ with_key_is keys c.args.s n c.fits-s (omega arith))

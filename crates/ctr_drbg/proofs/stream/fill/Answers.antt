@@ -1,19 +1,22 @@
-use Rattle.std.proofs.Common.{◌≡◌, ◌≤◌, ◌+◌, ◌*◌, length, ap, sym, ◌∙◌, rules, refl}
-use Rattle.std.proofs.Math.Seq.{take-nil}
-use Rattle.aes_core.specs.Aes.{aes}
-use Rattle.ctr_drbg.specs.CtrDrbg.{counted, plus_one}
-use Rattle.ctr_drbg.proofs.Rows.{counted-none, counted-more, fill_more, stream-none}
+use Rattle.std.proofs.Common.{◌≡◌, ◌-◌, ◌*◌, ◌/◌, length, drop, length-drop, arith}
+use Rattle.std.proofs.lemmas.List.{length-take-le}
+use Rattle.ctr_drbg.proofs.Fours.{both_parts, both_values}
 use Rattle.ctr_drbg.proofs.stream.fill.Goals as goal
 
-pub places-init : goal.places-init
-places-init c = (sym (counted-none _), rw (stream-none, take-nil) refl)
+pub returns-clause-bytes : goal.returns-clause-bytes
+returns-clause-bytes c =
+    let n = length c.args.out.now in
+    let out = c.fill_fours-last.new.out in
+    let same : length c.fill_fours-last.new.out ≡ length c.args.out.now = c.fill_fours-last.auto.out in
+    let size = length-take-le (length out - 64 * (n / 64)) (drop (64 * (n / 64)) out) (simp length-drop (omega arith)) in
+    both_parts c.args.aes.now c.args.v c.fill_fours-last.result out c.fill_ones.new.out n (length out - 64 * (n / 64))
+    same (omega arith) c.fill_fours-last.ensures.bytes c.fill_fours-last.ensures.value (rw size at c.fill_ones.ensures.bytes)
 
-pub places-preserved : goal.places-preserved
-places-preserved c =
-    let key = c.args.aes.now in
-    let v = c.args.v in
-    let i = c.places.i in
-    let value : c.next-value.result ≡ counted v (i + 1) = c.next-value.ensures ∙ (ap plus_one c.places.invariant.0 ∙ sym (counted-more v i)) in
-    let block : c.encrypted.result ≡ aes key (counted v (i + 1)) = c.encrypted.ensures ∙ ap (aes key) value in
-    let fits : 16 * c.places.i ≤ length c.places.out = search rules in
-    (value, fill_more key v c.places.out c.put_block.new.out i fits c.put_block.auto.out c.places.invariant.1 (rw block at c.put_block.ensures))
+pub returns-clause-value : goal.returns-clause-value
+returns-clause-value c =
+    let n = length c.args.out.now in
+    let out = c.fill_fours-last.new.out in
+    let same : length c.fill_fours-last.new.out ≡ length c.args.out.now = c.fill_fours-last.auto.out in
+    let size = length-take-le (length out - 64 * (n / 64)) (drop (64 * (n / 64)) out) (simp length-drop (omega arith)) in
+    both_values c.args.v c.fill_fours-last.result c.fill_ones.result n (length out - 64 * (n / 64))
+    (omega arith) c.fill_fours-last.ensures.value (rw size at c.fill_ones.ensures.value)

@@ -5,4 +5,4 @@ use Rattle.df_core.proofs.chaining.chained.Goals as goal
 
 pub returns : goal.returns
 unfolding chained
-returns c = c.encrypt.ensures.value ∙ ap (aes c.args.aes.now) c.xor_blocks-sum.ensures
+returns c = c.encrypt.ensures.value ∙ ap (aes c.args.aes.now) c.summed-sum.ensures

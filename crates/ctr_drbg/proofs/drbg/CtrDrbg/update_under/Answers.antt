@@ -1,26 +1,11 @@
-use Rattle.std.proofs.Common.{◌+◌, length, ap, sym, refl}
-use Rattle.ctr_drbg.specs.CtrDrbg.{update}
-use Rattle.ctr_drbg.proofs.Lengths.{length-front}
+use Rattle.std.proofs.Common.{◌≤◌, ◌+◌, length, arith}
+use Rattle.ctr_drbg.specs.State.{working}
+use Rattle.ctr_drbg.proofs.Rows.{update_is}
 use Rattle.ctr_drbg.proofs.drbg.CtrDrbg.update_under.Goals as goal
 
-pub xor_bytes-temp-requires-clause-same : goal.xor_bytes-temp-requires-clause-same
-xor_bytes-temp-requires-clause-same c =
-    let n = length c.as_slice-keylen.result.now + 16 in
-    let front = length-front c.args.aes.now c.args.self.now.v n in
-    let key = ap length c.as_slice-keylen.ensures.bytes in
-    rw (c.as_slice.ensures.bytes, c.seed_stream-bytes.ensures, front, key) (sym c.requires.provided)
-
 pub returns-clause-state : goal.returns-clause-state
-unfolding update
 returns-clause-state c =
-    rw (
-      c.of-self.ensures,
-      c.as_slice-2.ensures.bytes,
-      c.block_at-self.ensures,
-      c.as_slice-3.ensures.bytes,
-      c.xor_bytes-temp.ensures.bytes,
-      c.as_slice.ensures.bytes,
-      c.seed_stream-bytes.ensures,
-      c.as_slice-keylen.ensures.bytes,
-      c.requires.cipher,
-    ) refl
+    let key = c.as_slice-keylen.ensures.bytes in
+    let fits : length c.args.self.now.key + 16 ≤ length c.seed_stream-temp.result = omega (arith, c.seed_stream-temp.ensures.long, c.requires.formed.high) in
+    update_is (working c.args.self.now) c.seed_stream-temp.result c.args.provided.now c.xor_bytes.new.out _ _ fits c.requires.provided
+    (rw (key, c.requires.cipher) at c.seed_stream-temp.ensures.bytes) (rw key at c.xor_bytes.ensures) (rw key at c.of-self.ensures) (rw key at c.block_at-self.ensures)
