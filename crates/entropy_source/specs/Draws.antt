@@ -33,8 +33,7 @@ asks lacks = min 4096 lacks
 -- gave, behind those that the call has read before.
 module _ (row : SourceRow) (found : List ℕ → List ℕ → Option Alarm) where
   -- The reads for one block or for the start-up, from a moment on: how many samples it lacks, those that it has, and all
-  -- that the call has read. After an alarm, a failed read or the end of the
-  -- samples there is no further read.
+  -- that the call has read. After an alarm, a failed read or the end of the samples there is no further read.
   abbrev pub Gathers : ℕ → SourceState → List ℕ → List ℕ → List SourceAct → Result (List ℕ) SourceRefusal → Type 0
   Gathers lacks s has read [] result = (lacks ≡ 0) × (result ≡ Ok has)
   Gathers lacks s has read (Read asked None count ∷ acts) result =

@@ -272,6 +272,8 @@ fn samples_end(rt: HostRuntime) -> Result<(), Fail> {
         source.draw(&mut out),
         Err(SourceRefusal::WantOfEntropy { missing: 1 })
     );
+    // The block that was made does not stay in the bytes.
+    assert_eq!(rt; out, [0u8; 48]);
     assert_eq!(rt; numbers(&source), (1103, 1, SourceMode::Running, 0));
     assert_eq!(rt;
         source.start(),
