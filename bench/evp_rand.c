@@ -1,6 +1,7 @@
 /* The peer of the benchmarks, over OpenSSL's EVP_RAND.
  *
  *   evp_rand MECHANISM BYTES TIMES   the work of rbg_bench, with the same line on standard output
+ *   evp_rand sha-256 TIMES           the hash of so many pieces of 65,536 zeros, which is what that work hashes at this length
  */
 #include <string.h>
 
@@ -42,8 +43,21 @@ static void print_hash_of_outputs(const struct mechanism *m, size_t bytes, long 
     print_digest(md);
 }
 
+static void print_hash_of_zeros(long times)
+{
+    static const unsigned char piece[65536];
+    EVP_MD_CTX *md = new_digest();
+    for (long i = 0; i < times; i++)
+        EVP_DigestUpdate(md, piece, sizeof piece);
+    print_digest(md);
+}
+
 int main(int argc, char **argv)
 {
+    if (argc == 3 && strcmp(argv[1], "sha-256") == 0 && atol(argv[2]) > 0) {
+        print_hash_of_zeros(atol(argv[2]));
+        return 0;
+    }
     if (argc == 4) {
         const struct mechanism *m = mechanism_named(argv[1]);
         long bytes = atol(argv[2]), times = atol(argv[3]);
@@ -52,5 +66,5 @@ int main(int argc, char **argv)
             return 0;
         }
     }
-    fail("usage: evp_rand MECHANISM BYTES TIMES");
+    fail("usage: evp_rand MECHANISM BYTES TIMES, or sha-256 TIMES");
 }

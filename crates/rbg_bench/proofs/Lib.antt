@@ -1,3 +1,4 @@
 pub mod Asking
 pub mod Generates
+pub mod Iterations
 pub mod RunByRun

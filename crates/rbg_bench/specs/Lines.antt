@@ -5,19 +5,20 @@ use Rattle.hex.specs.Hex.{encode_lower}
 use Rattle.sha2.specs.Sha256.{sha256}
 use Rattle.health_tests.specs.Cutoffs.{Limits}
 use Rattle.rbg_bench.specs.declared.job.Primitive.{Primitive}
-use Rattle.rbg_bench.specs.declared.job.Primitive.TheVariants.{AesBlock, HashOfZeros}
+use Rattle.rbg_bench.specs.declared.job.Primitive.TheVariants.{AesBlock, FourAesBlocks, HashOfZeros}
 use Rattle.rbg_bench.specs.declared.job.Job.{Job}
 use Rattle.rbg_bench.specs.declared.job.Job.TheVariants.{Generates, Repeats, Tests}
 use Rattle.rbg_bench.specs.declared.runs.Totals.{Totals}
 use Rattle.rbg_bench.specs.Outputs.{outputs}
 use Rattle.rbg_bench.specs.Workers.{instantiated}
-use Rattle.rbg_bench.specs.Iterated.{iterated, counting_key}
+use Rattle.rbg_bench.specs.Iterated.{iterated, counting_key, long_counting_key}
 use Rattle.rbg_bench.specs.Samples.{generated}
 use Rattle.rbg_bench.specs.Runs.{totals_of}
 
--- what a primitive gives, so many times: the block of zeros encrypted, or the SHA-256 of pieces of 65,536 zeros
+-- what a primitive gives, so many times: the block of zeros encrypted, alone or as the last of four alike, or the SHA-256 of pieces of 65,536 zeros
 abbrev pub repeated : Primitive → ℕ → List ℕ
 repeated AesBlock times = iterated counting_key times (replicate 16 0)
+repeated FourAesBlocks times = iterated long_counting_key times (replicate 16 0)
 repeated HashOfZeros times = sha256 (replicate (65536 * times) 0)
 
 -- low enough that some run alarms: five equal samples, and eight of a window's 512 like its first

@@ -7,7 +7,7 @@ use Rattle.df_core.specs.declared.key_len.KeyLen.TheVariants.{K16, K24, K32}
 use Rattle.rbg_bench.specs.declared.job.Mechanism.{Mechanism}
 use Rattle.rbg_bench.specs.declared.job.Mechanism.TheVariants.{OverHash, OverAes}
 use Rattle.rbg_bench.specs.declared.job.Primitive.{Primitive}
-use Rattle.rbg_bench.specs.declared.job.Primitive.TheVariants.{AesBlock, HashOfZeros}
+use Rattle.rbg_bench.specs.declared.job.Primitive.TheVariants.{AesBlock, FourAesBlocks, HashOfZeros}
 use Rattle.rbg_bench.specs.declared.job.Form.{Form}
 use Rattle.rbg_bench.specs.declared.job.Form.TheVariants.{Step, Slice}
 
@@ -26,6 +26,7 @@ mechanism_name (OverAes K32) = codes "ctr-aes-256"
 -- the word for a primitive
 abbrev pub primitive_name : Primitive → List ℕ
 primitive_name AesBlock = codes "aes-128-block"
+primitive_name FourAesBlocks = codes "aes-256-four-blocks"
 primitive_name HashOfZeros = codes "sha-256"
 
 -- the word for a form of the health tests

@@ -18,10 +18,11 @@ pub enum Mechanism {
     OverAes(KeyLen),
 }
 
-// One block of AES-128 (FIPS 197), or SHA-256 (FIPS 180-4) of a piece of 65,536 bytes.
+// One block of AES-128 or four at once of AES-256 (FIPS 197), or SHA-256 (FIPS 180-4) of a piece of 65,536 bytes.
 #[derive(Clone, Copy)]
 pub enum Primitive {
     AesBlock,
+    FourAesBlocks,
     HashOfZeros,
 }
 
@@ -69,6 +70,7 @@ fn primitive_named(word: &str) -> Option<Primitive>
 {
     match word {
         "aes-128-block" => Some(Primitive::AesBlock),
+        "aes-256-four-blocks" => Some(Primitive::FourAesBlocks),
         "sha-256" => Some(Primitive::HashOfZeros),
         _ => None,
     }

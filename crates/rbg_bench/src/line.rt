@@ -8,7 +8,7 @@ ghost use Rattle.rbg_bench.specs.declared.job.Job.{Job};
 
 use crate::job::{Form, Job, Mechanism, Primitive};
 use crate::outputs::digest_of_mechanism;
-use crate::primitives::{digest_of_zeros, encrypted};
+use crate::primitives::{digest_of_zeros, encrypted, four_encrypted};
 use crate::runs::{self, Totals};
 use crate::samples;
 use health_tests::Cutoffs;
@@ -34,6 +34,7 @@ fn repeats(alloc: Global, primitive: Primitive, times: u32) -> Result<String, Al
 {
     match primitive {
         Primitive::AesBlock => hex::encode(alloc, encrypted(times)),
+        Primitive::FourAesBlocks => hex::encode(alloc, four_encrypted(times)),
         Primitive::HashOfZeros => hex::encode(alloc, digest_of_zeros(times)),
     }
 }

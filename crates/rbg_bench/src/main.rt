@@ -3,7 +3,9 @@
 //! - `rbg_bench MECHANISM BYTES TIMES` generates BYTES bytes TIMES times by one DRBG, as `hmac-sha-256` or `ctr-aes-128`, and prints
 //!   the SHA-256 of all of them in hexadecimal;
 //! - `rbg_bench PRIMITIVE TIMES`: with `aes-128-block` it encrypts the block of zeros TIMES times, each time what the last one gave,
-//!   with the key 00 to 0f, and prints the last block in hexadecimal; with `sha-256` it prints the SHA-256 of TIMES times 65,536 zeros;
+//!   with the key 00 to 0f, and prints the last block in hexadecimal; with `aes-256-four-blocks` it does so with four blocks of
+//!   zeros at once and the key 00 to 1f, and prints the last of the four; with `sha-256` it prints the SHA-256 of TIMES times 65,536
+//!   zeros;
 //! - `rbg_bench FORM SAMPLES TIMES` runs both continuous health tests over SAMPLES pseudo-random samples TIMES times, each time from
 //!   fresh tests, and prints how many samples were tested and how many of the runs alarmed: with `health-step` the tests get one
 //!   sample a call, with `health-slice` all of them in one call.

@@ -23,7 +23,12 @@ fn lines_are_those_of_their_words(rt: HostRuntime) -> Result<(), Fail> {
             "hmac-sha-384 100 3",
             "8d51ba93d61c3fb8063ece354654154d21becb141346652cd96fd550a342e1f3",
         ),
+        (
+            "ctr-aes-256 65536 1",
+            "6df058dc1ba3fe960e873961f12e22a9a3f00f87eec1956fa9d8092adeeef5e5",
+        ),
         ("aes-128-block 1", "c6a13b37878f5b826f4f8162a1c8d879"),
+        ("aes-256-four-blocks 1", "f29000b62a499fd0a9f39a6add2e7780"),
         (
             "sha-256 +3",
             "3381de4ca9f3a477f25989dfc8b744e7916046b7aa369f61a9a2f7dc0963ec9e",
