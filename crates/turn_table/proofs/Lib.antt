@@ -1,0 +1,13 @@
+pub mod Keeps
+pub mod Lists
+pub mod Commits
+pub mod Rests
+pub mod Looking
+pub mod Moves
+pub mod Takes
+pub mod Put
+pub mod Joins
+pub mod Opens
+pub mod Closes
+pub mod Empties
+pub mod Gathers
