@@ -11,3 +11,4 @@ pub mod Opens
 pub mod Closes
 pub mod Empties
 pub mod Gathers
+pub mod Flow

@@ -8,3 +8,4 @@ pub mod Opens
 pub mod Calls
 pub mod Steps
 pub mod Closes
+pub mod Counters

@@ -18,11 +18,14 @@
 
 mod calls;
 mod closing;
+pub mod counters;
 mod machine;
 mod opening;
 mod pass;
 mod plays;
 mod table;
+#[cfg(test)]
+mod tests;
 mod view;
 
 pub use calls::Held;
