@@ -12,3 +12,4 @@ pub mod Closes
 pub mod Empties
 pub mod Gathers
 pub mod Flow
+pub mod Both

@@ -46,6 +46,13 @@ pub record HasOnly (table : TableId) (callers slot x : ℕ) (p : Standing) : Typ
   pub callers_is : p.view.callers ≡ callers
   pub turn : p.view.leases ≡ lease slot slot (x ∷ []) false ∷ []
 
+-- a pass that has the turns of the counters 1 and 0, both for counter 1, which stand at x and y
+pub record HasBoth (table : TableId) (callers x y : ℕ) (p : Standing) : Type 0 where
+  pub table_is : p.table ≡ table
+  pub opening_is : p.view.opening ≡ []
+  pub callers_is : p.view.callers ≡ callers
+  pub turns : p.view.leases ≡ lease 1 1 (x ∷ []) false ∷ lease 0 1 (y ∷ []) false ∷ []
+
 -- a pass has made no call, and what it has seen goes on
 pub record Goes (v w : View) : Type 0 where
   pub begins : Begins v.seen w.seen
