@@ -7,7 +7,8 @@ use lib.ListN.{get_elem?}
 use Rattle.std.specs.declared.option.Option.{Option}
 use Rattle.atomic_table.specs.Table.{State, Final, Seen}
 use Rattle.std.specs.declared.option.Option.TheVariants.{Some}
-use Rattle.turn_table.proofs.Keeps.{one_of, two_of, nothing_listed, turned_of}
+use Rattle.turn_table.proofs.Totals.{one_of, two_of, nothing_listed}
+use Rattle.turn_table.proofs.Keeps.{turned_of}
 use Rattle.turn_table.proofs.Commits.{numbers_live, made_live}
 use Rattle.turn_table.proofs.Lists.{if_false, few_entries}
 use Rattle.turn_table.proofs.Joins.{length_map, none_of_zero}

@@ -9,7 +9,8 @@ use Rattle.std.specs.declared.option.Option.{Option}
 use Rattle.atomic_table.specs.Table.{State, Me, step, keeps, Allows}
 use Rattle.atomic_table.proofs.Lists.{at_set, at_snoc, at_map, set_here}
 use Rattle.turn_table.proofs.Lists.{if_true, at_map_back, states_snoc, legal_snoc, of_snoc, of_snoc_else, few_entries, state_listed}
-use Rattle.turn_table.proofs.Keeps.{total_set, times_here, once_small, once_below, own_here, same_total, one_of, two_of, inside_of, append_none, taken_stays, turned_of, finds_at, apart}
+use Rattle.turn_table.proofs.Totals.{total_set, times_here, once_small, once_below, own_here, same_total, one_of, two_of, inside_of, append_none, taken_stays}
+use Rattle.turn_table.proofs.Keeps.{turned_of, finds_at, apart}
 use Rattle.turn_table.specs.declared.view.View.{View}
 use Rattle.turn_table.specs.declared.view.Lease.{Lease}
 use Rattle.turn_table.specs.declared.view.Ended.{Ended}

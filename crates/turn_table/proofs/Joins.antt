@@ -11,7 +11,8 @@ use Rattle.std.specs.declared.option.Option.{Option}
 use Rattle.atomic_table.specs.Table.{State, Me, step, keeps, Allows, Splits, Joins}
 use Rattle.atomic_table.proofs.Lists.{at_set, set_here, set_else, at_snoc, at_longer}
 use Rattle.turn_table.proofs.Lists.{if_true, if_false, front_whole}
-use Rattle.turn_table.proofs.Keeps.{total_set, same_total, one_of, inside_of, nothing_listed, taken_stays, seen_stays, turned_of}
+use Rattle.turn_table.proofs.Totals.{total_set, same_total, one_of, inside_of, nothing_listed, taken_stays, seen_stays}
+use Rattle.turn_table.proofs.Keeps.{turned_of}
 use Rattle.turn_table.proofs.Commits.{times_append, numbers_live, made_live}
 use Rattle.turn_table.specs.declared.view.View.{View}
 use Rattle.turn_table.specs.declared.view.Lease.{Lease}

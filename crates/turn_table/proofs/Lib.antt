@@ -1,4 +1,6 @@
+pub mod Totals
 pub mod Keeps
+pub mod Looks
 pub mod Lists
 pub mod Commits
 pub mod Rests

@@ -10,7 +10,8 @@ use Rattle.std.specs.declared.option.Option.TheVariants.{None, Some}
 use Rattle.atomic_table.specs.Table.{State, step, takes, gives, Allows}
 use Rattle.atomic_table.proofs.Lists.{set_here, at_map}
 use Rattle.turn_table.proofs.Lists.{at_map_back, marked_here, marked_else, marked_slot, at_without, in_without}
-use Rattle.turn_table.proofs.Keeps.{inside_of, nothing_listed, turned_of, apart, held_else, Others, retold}
+use Rattle.turn_table.proofs.Totals.{inside_of, nothing_listed}
+use Rattle.turn_table.proofs.Keeps.{turned_of, apart, held_else, Others, retold}
 use Rattle.turn_table.specs.declared.view.View.{View}
 use Rattle.turn_table.specs.declared.view.Lease.{Lease}
 use Rattle.turn_table.specs.Meaning.{Meaning}

@@ -11,7 +11,7 @@ use Rattle.turn_table.specs.History.{Entry, state_of}
 use Rattle.turn_table.specs.Views.{with_seen, lease, moved, freed, met_at, took, entered, numbered}
 use Rattle.turn_table.specs.Passes.{AtRest, IsUndrawn}
 use Rattle.turn_table.proofs.Lists.{at_map_back, at_without}
-use Rattle.turn_table.proofs.Keeps.{nothing_listed}
+use Rattle.turn_table.proofs.Totals.{nothing_listed}
 
 rests_entered : {V : Type 0} (M : Meaning V) (h : List Entry) (e : Entry) (slots : ℕ) (v : View) → length v.mine < 1099511627776 → AtRest slots v → AtRest slots (entered M h e v)
 rests_entered M h e slots v room rest = record {

@@ -4,7 +4,7 @@ use Rattle.atomic_table.specs.Table.{Me}
 use Rattle.turn_table.specs.declared.view.View.{View}
 use Rattle.turn_table.specs.Passes.{Standing}
 use Rattle.turn_table.specs.Calls.{Looks}
-use Rattle.turn_table.proofs.Keeps.{glances}
+use Rattle.turn_table.proofs.Looks.{glances}
 use Rattle.turn_table.proofs.Put.{turn_inside}
 use Rattle.turn_table.proofs.Rests.{settled_seen}
 use Rattle.turn_table.proofs.table.Turns.glance.Goals as goal

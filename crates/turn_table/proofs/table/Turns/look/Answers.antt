@@ -4,7 +4,7 @@ use Rattle.std.specs.declared.option.Option.{Option}
 use Rattle.atomic_table.specs.Table.{Me}
 use Rattle.turn_table.specs.Passes.{Standing}
 use Rattle.turn_table.specs.Calls.{Looks}
-use Rattle.turn_table.proofs.Keeps.{looks}
+use Rattle.turn_table.proofs.Looks.{looks}
 use Rattle.turn_table.proofs.Rests.{settled_seen}
 use Rattle.turn_table.proofs.table.Turns.look.Goals as goal
 

@@ -1,6 +1,6 @@
 use Rattle.std.proofs.Common.{rules, ◌≡◌, ◌+◌, ◌*◌, ◌<◌, ℕ, length, sym, ap, ◌∙◌, subst, refl, arith}
 use Rattle.atomic_table.specs.Seated.{TableId}
-use Rattle.turn_table.proofs.Keeps.{take_goes}
+use Rattle.turn_table.proofs.Looks.{take_goes}
 use Rattle.turn_table.proofs.Takes.{can_exchange, emptied, lists_it, settles, takes_it, rest_allowed, holding}
 use Rattle.turn_table.proofs.Rests.{settled_took}
 use Rattle.turn_table.proofs.Put.{turn_inside}
