@@ -8,8 +8,7 @@ use Rattle.turn_table.specs.declared.view.Lease.{Lease}
 use Rattle.turn_table.specs.Views.{lease, without, HasTurn, freed}
 use Rattle.turn_table.specs.Passes.{Standing}
 use Rattle.turn_table.specs.Calls.{Takes, Meets, MayPut}
-use Rattle.turn_table.specs.Counters.{counters, IsReady, HasOnly, HasBoth}
-use Rattle.turn_table.proofs.Flow.{ready_back}
+use Rattle.turn_table.specs.Counters.{counters, HasOnly, HasBoth}
 
 abbrev first_slot : List Lease → ℕ
 first_slot [] = 1

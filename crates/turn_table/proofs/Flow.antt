@@ -1,16 +1,16 @@
 -- The calls on counters, step by step.
-use Rattle.std.proofs.Common.{◌≡◌, ℕ, zero, suc, ◌+◌, ◌<◌, ◌≤◌, List, [], ◌∷◌, ◌++◌, length, replicate, get_or, sym, refl, ap, ◌∙◌, subst, arith, map, append_assoc, append-nil, eq-eqb, eqb-true, All, Bool, true, false}
-use Rattle.std.specs.Prelude.{◌==◌, if◌then◌else◌}
+use Rattle.std.proofs.Common.{◌≡◌, ℕ, zero, suc, ◌+◌, ◌<◌, ◌≤◌, ◌⊎◌, inl, inr, ⊎_elim, List, [], ◌∷◌, ◌++◌, length, replicate, get_or, sym, refl, ap, ◌∙◌, subst, arith, map, append_assoc, append-nil, eq-eqb, eqb-true, All, Bool, false}
+use Rattle.std.specs.Prelude.{if◌then◌else◌}
 use mathlib.Core.Option.{some}
 use lib.ListN.{get_elem?}
 use Rattle.atomic_table.specs.Seated.{TableId}
 use Rattle.turn_table.specs.declared.view.View.{View}
 use Rattle.turn_table.specs.declared.view.Lease.{Lease}
 use Rattle.turn_table.specs.History.{Entry, Begins, state_of, LegalOver}
-use Rattle.turn_table.specs.Views.{lease, moved, without, state_in, HasTurn, freed, entered}
+use Rattle.turn_table.specs.Views.{lease, moved, without, state_in, freed, entered}
 use Rattle.turn_table.specs.Calls.{Looks, Takes, Meets, MayCommit, Commits, MayPut}
 use Rattle.turn_table.specs.Passes.{Standing, IsIdle, opening_of}
-use Rattle.turn_table.specs.Counters.{counters, sum_entry, IsReady, HasOnly, Goes, Adds}
+use Rattle.turn_table.specs.Counters.{counters, sum_entry, IsReady, HasOnly, Stands, Goes, Adds, Declines}
 use Rattle.turn_table.proofs.Lists.{states_snoc}
 
 begins_on : (xs ys zs : List Entry) → Begins xs ys → Begins ys zs → Begins xs zs
@@ -67,6 +67,20 @@ module _ (t : TableId) (callers : ℕ) (p q : Standing) (ready : IsReady t calle
     callers_is = ap (λ (z : View). z.callers) e ∙ ready.callers_is;
     turn = ap (λ (z : View). z.leases) e ∙ (λ i. ready.no_turn i ++ lease k k (b.value i) false ∷ []);
   }
+
+pub stands_took : (t : TableId) (callers k x : ℕ) (p q : Standing) → IsReady t callers p → Takes counters k k x p.view q.view → Stands k x q.view
+stands_took t callers k x p q ready b = let seen : q.view.seen ≡ b.history = ap (λ (z : View). z.seen) b.after in record {
+  legal = subst (λ (y : List ℕ × List Entry). LegalOver counters y.0 y.1) (λ i. (ready.opening_is i, sym seen i)) b.finds.legal;
+  value = (λ i. state_of counters (sym ready.opening_is i) (seen i) k) ∙ b.value;
+}
+
+pub declines : (slot amount x : ℕ) (v w u : View) → Goes v w → Stands slot x w → (18446744073709551616 ≤ x + amount) ⊎ (1099511627776 ≤ length w.mine) → Goes w u → u.seen ≡ w.seen → Declines slot amount v u
+declines slot amount x v w u g s why back seen = record {
+  goes = goes_on v w u g back;
+  why = ⊎_elim
+      (λ h. inl (x, record { legal = subst (LegalOver counters []) (sym seen) s.legal; value = ap (λ (h : List Entry). state_of counters [] h slot) seen ∙ s.value }, h))
+      (λ h. inr (subst (λ (l : List Entry). 1099511627776 ≤ length l) g.mine_is h)) why;
+}
 
 abbrev Only : ℕ → ℕ → View → Type 0
 Only slot x v = v.leases ≡ lease slot slot (x ∷ []) false ∷ []

@@ -1,5 +1,5 @@
 -- A step that changes one view alone, or one view and the turn of one slot, keeps the rule of turns.
-use Rattle.std.proofs.Common.{◌≡◌, ℕ, suc, ◌+◌, ◌-◌, ◌<◌, ◌≤◌, ◌≢◌, ◌⊎◌, inl, inr, ⊎_elim, List, [], length, get_or, set, sym, ap, ◌∙◌, subst, arith, length-set, get_or-set_other, true, false}
+use Rattle.std.proofs.Common.{◌≡◌, ℕ, suc, ◌+◌, ◌<◌, ◌≤◌, ◌≢◌, ◌⊎◌, inl, inr, ⊎_elim, List, [], length, get_or, set, sym, ap, ◌∙◌, subst, arith, length-set, get_or-set_other, true, false}
 use mathlib.Core.Logic.{dite}
 use mathlib.Core.Option as known
 use mathlib.Core.Option.{some, some-injective}
@@ -7,7 +7,7 @@ use native.Mathlib.Decide.{ℕ_discrete}
 use lib.ListN.{get_elem?}
 use lib.Seq.{set-get_or}
 use Rattle.std.specs.declared.option.Option.{Option}
-use Rattle.atomic_table.specs.Table.{State, step, keeps, stepped}
+use Rattle.atomic_table.specs.Table.{State, keeps, stepped}
 use Rattle.atomic_table.proofs.Lists.{at_set, set_here, set_else}
 use Rattle.turn_table.specs.declared.view.View.{View}
 use Rattle.turn_table.specs.declared.view.Lease.{Lease}

@@ -1,5 +1,5 @@
 -- A look at the history, and a take that wins or finds the turn held.
-use Rattle.std.proofs.Common.{◌≡◌, ℕ, suc, ◌+◌, ◌-◌, ◌<◌, ◌≢◌, ◌⊎◌, inr, ⊎_elim, eqb, List, [], ◌∷◌, ◌++◌, length, get_or, set, sym, refl, ap, ◌∙◌, subst, arith, length-set, get_or-set_same, true, false, true≢false}
+use Rattle.std.proofs.Common.{◌≡◌, ℕ, suc, ◌+◌, ◌-◌, ◌<◌, ◌≢◌, inr, ⊎_elim, eqb, List, [], ◌∷◌, ◌++◌, length, get_or, set, sym, refl, ap, ◌∙◌, subst, arith, length-set, get_or-set_same, true, true≢false}
 use mathlib.Core.Option.{none, some, some-injective}
 use lib.ListN.{get_elem?}
 use prog.Atomic.{either}
@@ -28,7 +28,6 @@ module _ {S : Type 0} (M : Meaning S) where
     inr (loaded M s i id me.1 w (quiet M s r id me.0 w at live (sees M s r me.0 k) (λ i t e. (i, t, e, refl)) (λ _. refl) refl refl refl)),
     (r.history, finds_at M s r me.0 k, refl),
   )
-
 
   pub looks : (values : ℕ × List (Option S)) (slots id : ℕ) (me : Me (Option S) View) → me.0.live ≡ true
       → Allows (Kept M values) slots id me 0 (λ n. n) (looked M (step slots 0 0 0 none) me)

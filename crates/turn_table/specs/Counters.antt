@@ -1,6 +1,6 @@
 -- Counters as a machine: what their openings, entries, states and values mean, and what their calls say.
 -- This project's own.
-use Rattle.std.specs.Prelude.{◌≡◌, ℕ, ◌+◌, ◌<◌, ◌≤◌, ◌==◌, List, [], ◌∷◌, ◌++◌, length, slice_index, Bool, true, false, if◌then◌else◌, refl}
+use Rattle.std.specs.Prelude.{◌≡◌, ℕ, ◌+◌, ◌<◌, ◌≤◌, ◌==◌, ◌⊎◌, List, [], ◌∷◌, ◌++◌, length, slice_index, Bool, false, if◌then◌else◌, refl}
 use Rattle.std.proofs.Common.{ap, subst, eq-eqb}
 use Rattle.atomic_table.specs.Seated.{TableId}
 use Rattle.turn_table.specs.declared.view.View.{View}
@@ -58,6 +58,16 @@ pub record Goes (v w : View) : Type 0 where
   pub begins : Begins v.seen w.seen
   pub number_is : w.number ≡ v.number
   pub mine_is : w.mine ≡ v.mine
+
+-- all that the pass has seen is legal, and the counter stands at x after it
+pub record Stands (slot x : ℕ) (v : View) : Type 0 where
+  pub legal : LegalOver counters [] v.seen
+  pub value : state_of counters [] v.seen slot ≡ x ∷ []
+
+-- nothing was added, for the counter stood too high after all that was seen then, or the pass had made 2^40 calls
+pub record Declines (slot amount : ℕ) (v w : View) : Type 0 where
+  pub goes : Goes v w
+  pub why : ((x : ℕ) × Stands slot x w × (18446744073709551616 ≤ x + amount)) ⊎ (1099511627776 ≤ length v.mine)
 
 -- a pass made one call: its entry was added behind all that was seen before, and the counter stands at x then
 pub record Adds (slot amount x : ℕ) (v w : View) : Type 0 where

@@ -8,7 +8,7 @@
 ghost use Rattle.std.specs.Prelude.{◌≡◌, ◌≢◌, ◌+◌, ◌<◌, ◌≤◌, ◌⊎◌, ◌^◌, [], All, IfErr, IfNone, IfOk, IfSome, length, vec_len, replicate};
 ghost use Rattle.turn_table.specs.Calls.{MayCommit, Commits};
 ghost use Rattle.turn_table.specs.Closes.{Closes};
-ghost use Rattle.turn_table.specs.Counters.{counters, IsReady, HasOnly, Goes, Adds};
+ghost use Rattle.turn_table.specs.Counters.{counters, IsReady, HasOnly, Stands, Goes, Adds, Declines};
 
 use crate::calls::Held;
 use crate::closing::{CloseRefused, TableClosed};
@@ -64,6 +64,7 @@ pub fn try_take(turns: &Turns<Counters>, pass: &mut Pass<Counters>, slot: u16) -
     requires ready { IsReady turns.now.table turns.now.callers pass.old }
     requires slot { slot < turns.now.table.slots }
     ensures took { IfOk result (λ x. HasOnly turns.entry.now.table turns.entry.now.callers slot x pass.new × Goes pass.old.view pass.new.view) }
+    ensures stood { IfOk result (λ x. Stands slot x pass.new.view) }
     ensures held { IfErr result (λ h. (h.slot ≡ slot) × (h.holder ≢ pass.old.view.number) × IsReady turns.entry.now.table turns.entry.now.callers pass.new × Goes pass.old.view pass.new.view) }
 {
     turns.try_take(pass, slot, slot)
@@ -85,6 +86,7 @@ pub fn take<R: Wait>(rt: &R, turns: &Turns<Counters>, pass: &mut Pass<Counters>,
     requires ready { IsReady turns.now.table turns.now.callers pass.old }
     requires slot { slot < turns.now.table.slots }
     ensures turn { HasOnly turns.entry.now.table turns.entry.now.callers slot result pass.new }
+    ensures stood { Stands slot result pass.new.view }
     ensures goes { Goes pass.old.view pass.new.view }
 {
     for _ in rt.forever() {
@@ -133,6 +135,7 @@ pub fn settle(
     ensures ready { IsReady turns.entry.now.table turns.entry.now.callers pass.new }
     ensures added { IfSome result (λ x. (x ≡ value + amount) × Adds slot amount x pass.old.view pass.new.view) }
     ensures full { IfNone result (((2 ^ 64 ≤ value + amount) ⊎ (2 ^ 40 ≤ length pass.old.view.mine)) × Goes pass.old.view pass.new.view) }
+    ensures unseen { IfNone result (pass.new.view.seen ≡ pass.old.view.seen) }
 {
     let Some(sum) = sum_of(value, amount, pass.calls()) else {
         turns.put_back(pass, slot, value);
@@ -155,7 +158,7 @@ pub fn add<R: Wait>(
     requires slot { slot < turns.now.table.slots }
     ensures ready { IsReady turns.entry.now.table turns.entry.now.callers pass.new }
     ensures added { IfSome result (λ x. Adds slot amount x pass.old.view pass.new.view) }
-    ensures full { IfNone result (Goes pass.old.view pass.new.view) }
+    ensures full { IfNone result (Declines slot amount pass.old.view pass.new.view) }
 {
     let value = take(rt, turns, pass, slot);
     settle(turns, pass, slot, value, amount)

@@ -1,7 +1,6 @@
-use Rattle.std.proofs.Common.{◌≡◌, ◌≤◌, ℕ, List, [], ◌∷◌, Some, None, map, get_or, refl, sym, ◌∙◌, ap, arith}
+use Rattle.std.proofs.Common.{◌≡◌, ℕ, Some, None, refl, sym, ◌∙◌, ap, arith}
 use Rattle.std.specs.Prelude.{Option, unwrap_or, string_bytes}
 use Rattle.turn_bench.proofs.Three.{first, second, third}
-use Rattle.turn_bench.specs.declared.job.Job.{Job}
 use Rattle.turn_bench.proofs.job.read_job.Goals as goal
 
 pub returns-in_err-callers-clause-read : goal.returns-in_err-callers-clause-read

@@ -1,7 +1,4 @@
-use Rattle.std.proofs.Common.{◌≡◌, List, [], ℕ, subst}
-use Rattle.turn_table.specs.Closes.{Closes}
-use Rattle.turn_table.specs.Counters.{counters}
-use Rattle.turn_table.proofs.Flow.{one_opening, all_idle}
+use Rattle.turn_table.proofs.Flow.{all_idle}
 use Rattle.turn_table.proofs.counters.close.Goals as goal
 
 pub close-requires-clause-idle : goal.close-requires-clause-idle

@@ -1,4 +1,4 @@
-use Rattle.std.proofs.Common.{◌≡◌, ◌+◌, ◌<◌, ℕ, subst, sym}
+use Rattle.std.proofs.Common.{ℕ, subst, sym}
 use Rattle.turn_table.specs.Calls.{MayPut}
 use Rattle.turn_table.specs.Counters.{counters, Adds}
 use Rattle.turn_table.proofs.Flow.{may_add, may_put, only_then, adds}

@@ -1,5 +1,5 @@
 use Rattle.std.specs.Prelude.{Result, Ok, Err, IfOk, IfErr}
-use Rattle.turn_table.proofs.Flow.{goes_took, goes_met, only_took, ready_met}
+use Rattle.turn_table.proofs.Flow.{goes_took, goes_met, only_took, stands_took, ready_met}
 use Rattle.turn_table.proofs.counters.try_take.Goals as goal
 
 where_ok : {T E : Type 0} (P Q : T → Type 0) (r : Result T E) → ((x : T) → P x → Q x) → IfOk r P → IfOk r Q
@@ -16,3 +16,6 @@ returns-clause-took c = where_ok _ _ c.try_take.result (λ x h. (only_took _ _ _
 pub returns-clause-held : goal.returns-clause-held
 returns-clause-held c = where_err _ _ c.try_take.result
     (λ e h. (h.0, h.1.another, ready_met _ _ _ _ c.requires.ready c.try_take.ensures.own _ _ _ h.1, goes_met _ _ _ _ _ h.1)) c.try_take.ensures.held
+
+pub returns-clause-stood : goal.returns-clause-stood
+returns-clause-stood c = where_ok _ _ c.try_take.result (λ x h. stands_took c.args.turns.now.table c.args.turns.now.callers c.args.slot x c.args.pass.now c.try_take.new.pass c.requires.ready h) c.try_take.ensures.took

@@ -1,5 +1,5 @@
 use Rattle.turn_table.proofs.Both.{may_put_below, only_above}
-use Rattle.turn_table.proofs.Flow.{may_put, ready_back}
+use Rattle.turn_table.proofs.Flow.{may_put}
 use Rattle.turn_table.proofs.tests.give_both.Goals as goal
 
 pub put_back-requires-clause-turn : goal.put_back-requires-clause-turn

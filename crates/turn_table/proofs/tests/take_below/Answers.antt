@@ -1,5 +1,5 @@
-use Rattle.turn_table.proofs.Both.{free_below, both_took, only_met}
-use Rattle.turn_table.proofs.Flow.{may_put, ready_back}
+use Rattle.turn_table.proofs.Both.{free_below, only_met}
+use Rattle.turn_table.proofs.Flow.{may_put}
 use Rattle.turn_table.proofs.tests.take_below.Goals as goal
 
 pub try_take-requires-clause-free : goal.try_take-requires-clause-free
