@@ -1,0 +1,17 @@
+pub mod Totals
+pub mod Keeps
+pub mod Looks
+pub mod Lists
+pub mod Commits
+pub mod Rests
+pub mod Looking
+pub mod Moves
+pub mod Takes
+pub mod Put
+pub mod Joins
+pub mod Opens
+pub mod Closes
+pub mod Empties
+pub mod Gathers
+pub mod Flow
+pub mod Both

@@ -1,0 +1,11 @@
+pub mod Meaning
+pub mod History
+pub mod Views
+pub mod TurnRule
+pub mod Kept
+pub mod Passes
+pub mod Opens
+pub mod Calls
+pub mod Steps
+pub mod Closes
+pub mod Counters
