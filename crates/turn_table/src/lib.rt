@@ -14,6 +14,8 @@
 //!
 //! Between any two steps of any threads the rule of turns holds (`specs/TurnRule.antt`). `specs/Calls.antt` has what each call needs and
 //! tells, and `specs/Closes.antt` what is left at the end. No clause says that a turn comes free, or that a thread wakes.
+//!
+//! The module [`counters`] is an example to follow: it puts a machine of counters on a table.
 #![tactic(auto)]
 
 mod calls;
