@@ -5,9 +5,9 @@ use Rattle.rbg_nodes.specs.Node.{How, entropy_len}
 use Rattle.tree_config.specs.Tree.{Tree}
 use Rattle.tree_config.specs.declared.plan.Origin.{Origin}
 use Rattle.tree_config.specs.declared.plan.Origin.TheVariants.{Parent, SeedFile, Source}
-use Rattle.tree_core.specs.Chain.{source_at, source_by, source_of}
-use Rattle.tree_core.specs.History.{States}
-use Rattle.tree_core.specs.Links.{Gives, Link, Rests, Seeds, Task, chunk_lens, chunks, is_alive, is_rs, is_xor, must_seed, seeding_by, wanted, wanted_by}
+use Rattle.tree_rules.specs.Chain.{source_at, source_by, source_of}
+use Rattle.tree_rules.specs.History.{States}
+use Rattle.tree_rules.specs.Links.{Gives, Link, Rests, Seeds, Task, chunk_lens, chunks, is_alive, is_rs, is_xor, must_seed, seeding_by, wanted, wanted_by}
 use Rattle.tree_core.specs.Plain.{are_some, draws_on, number_in}
 use Rattle.std.specs.Int.{div_ceil}
 use Rattle.std.specs.List.{fold}

@@ -3,20 +3,20 @@ use Rattle.std.proofs.Common.{◌≡◌, ◌∙◌, ◌++◌, ◌∷◌, ℕ, Li
 use Rattle.std.specs.Prelude.{◌&&◌, if◌then◌else◌, Option, Some, None, option_map, slice_get, unwrap_or}
 use Rattle.entropy_source.specs.Source.{SourceState, need_of}
 use Rattle.tree_config.specs.Tree.{Tree}
-use Rattle.tree_core.specs.Chain.{Chain, SourceLink, asks_pr, named, need, need_by, node_chain, source_at, source_of, task_of, wants_of}
-use Rattle.tree_core.specs.History.{NodeIs, SourceIs, States, source_in}
-use Rattle.tree_core.specs.Links.{Link, last_link, link, no_link, wanted}
+use Rattle.tree_rules.specs.Chain.{Chain, SourceLink, asks_pr, named, need, need_by, node_chain, source_at, source_of, task_of, wants_of}
+use Rattle.tree_rules.specs.History.{NodeIs, SourceIs, States, source_in}
+use Rattle.tree_rules.specs.Links.{Link, last_link, link, no_link, wanted}
 use Rattle.tree_core.specs.Plain.{draws_on, no_plain_node, no_plain_source, node_of, plain_states, source_from}
-use Rattle.tree_core.specs.Replies.{chain_by, chain_rows, first_reply, is_instantiate, is_start, mode_of, rows_by, taken_of}
-use Rattle.tree_core.specs.Slots.{source_number, source_row, source_slot}
-use Rattle.tree_core.specs.declared.call.Call.{Call}
-use Rattle.tree_core.specs.declared.call.Call.TheVariants.{Generate, Instantiate, Reseed, Start, Status, Uninstantiate}
+use Rattle.tree_rules.specs.Replies.{chain_by, chain_rows, first_reply, is_instantiate, is_start, mode_of, rows_by, taken_of}
+use Rattle.tree_rules.specs.Slots.{source_number, source_row, source_slot}
+use Rattle.tree_rules.specs.declared.call.Call.{Call}
+use Rattle.tree_rules.specs.declared.call.Call.TheVariants.{Generate, Instantiate, Reseed, Start, Status, Uninstantiate}
 use Rattle.tree_core.specs.declared.plain.PlainNode.{PlainNode}
 use Rattle.tree_core.specs.declared.plain.PlainSource.{PlainSource}
-use Rattle.tree_core.specs.declared.reply.Reply.{Reply}
-use Rattle.tree_core.specs.declared.reply.ReplyRow.{ReplyRow}
-use Rattle.tree_core.proofs.Sources.{need_is}
-use Rattle.tree_core.proofs.Parting.{place_of, high}
+use Rattle.tree_rules.specs.declared.reply.Reply.{Reply}
+use Rattle.tree_core.specs.declared.row.ReplyRow.{ReplyRow}
+use Rattle.tree_rules.proofs.Sources.{need_is}
+use Rattle.tree_rules.proofs.Parting.{place_of, high}
 use Rattle.tree_core.proofs.Counted.{names_source}
 use Rattle.entropy_source.specs.declared.answers.SourceMode.TheVariants as modes
 

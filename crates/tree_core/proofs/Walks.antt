@@ -2,9 +2,9 @@
 use Rattle.std.proofs.Common.{◌≡◌, ◌∙◌, ◌∷◌, ◌-◌, ◌≢◌, ℕ, List, [], zero, suc, Bool, true, false, refl, sym, ap, arith}
 use Rattle.std.specs.Prelude.{◌&&◌, if◌then◌else◌, Option, Some, None, is_some}
 use Rattle.tree_config.specs.Tree.{Tree, parent_in}
-use Rattle.tree_core.specs.History.{States}
-use Rattle.tree_core.specs.Links.{Gives, Link, Task, asks_parent, is_alive, last_link, link, links, must_seed, seeding_len}
-use Rattle.tree_core.specs.Slots.{ancestors, node_plan}
+use Rattle.tree_rules.specs.History.{States}
+use Rattle.tree_rules.specs.Links.{Gives, Link, Task, asks_parent, is_alive, last_link, link, links, must_seed, seeding_len}
+use Rattle.tree_rules.specs.Slots.{ancestors, node_plan}
 
 module _ (p : Tree) (s : States) (pr : Bool) (n : ℕ) (task : Task) where
   abbrev here : Link

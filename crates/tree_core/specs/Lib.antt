@@ -1,14 +1,1 @@
-pub mod Slots
-pub mod History
-pub mod Links
-pub mod Chain
-pub mod Replies
-pub mod Works
-pub mod Fits
-pub mod Right
-pub mod Apart
-pub mod Quiet
-pub mod Openings
-pub mod Served
-pub mod Sources
 pub mod Plain

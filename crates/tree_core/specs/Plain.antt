@@ -12,9 +12,9 @@ use Rattle.tree_core.specs.declared.plain.PlainSource.{PlainSource}
 use Rattle.tree_core.specs.declared.walk.Step.{Step}
 use Rattle.tree_core.specs.declared.walk.Asked.{Asked}
 use Rattle.tree_core.specs.declared.walk.Asked.TheVariants as asked
-use Rattle.tree_core.specs.Slots.{source_number}
-use Rattle.tree_core.specs.History.{States, NodeIs, SourceIs}
-use Rattle.tree_core.specs.Links.{Task, Seeds, Gives, Rests, Link, is_alive, wanted}
+use Rattle.tree_rules.specs.Slots.{source_number}
+use Rattle.tree_rules.specs.History.{States, NodeIs, SourceIs}
+use Rattle.tree_rules.specs.Links.{Task, Seeds, Gives, Rests, Link, is_alive, wanted}
 
 -- the states that plain numbers stand for; what a refusal doesn't read of a state is as when it was opened
 abbrev pub kept_if : Bool → Option (List ℕ)

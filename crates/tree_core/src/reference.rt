@@ -2,15 +2,13 @@
 ghost use Rattle.std.specs.Prelude.{◌≡◌, ◌≤◌, ◌<◌, ◌^◌, ◌+◌, ℕ, List, length, slice_get, false, Some, None};
 ghost use Rattle.tree_config.specs.declared.plan.Origin.{Origin};
 ghost use Rattle.tree_core.specs.declared.plain.PlainNode.{PlainNode};
-ghost use Rattle.tree_core.specs.declared.call.Call.TheVariants.{Start};
-ghost use Rattle.tree_core.specs.Chain.{named};
-ghost use Rattle.tree_core.specs.Links.{no_link};
-ghost use Rattle.tree_core.specs.Replies.{refusal, chain_of, chain_by, chain_rows, first_reply, is_start};
+ghost use Rattle.tree_rules.specs.declared.call.Call.TheVariants.{Start};
+ghost use Rattle.tree_rules.specs.Chain.{named};
+ghost use Rattle.tree_rules.specs.Links.{no_link};
+ghost use Rattle.tree_rules.specs.Replies.{refusal, chain_of, chain_by, chain_rows, first_reply, is_start};
 ghost use Rattle.tree_core.specs.Plain.{plain_states, link_of};
 
-use crate::call::Call;
 use crate::plain::{PlainNode, PlainSource};
-use crate::reply::Reply;
 use crate::samples::source_of;
 use crate::table::{chain_rows, first_reply, plain_rows};
 use crate::walk::{Asked, Step, last};
@@ -18,6 +16,7 @@ use entropy_source::SourceMode;
 use rbg_bytes::Kind;
 use rbg_nodes::NodeRow;
 use tree_config::{NodeKind, TreePlan};
+use tree_rules::{Call, Reply};
 
 // A node of which no refusal speaks.
 fn no_step() -> Step

@@ -5,8 +5,8 @@ ghost use Rattle.tree_config.specs.declared.plan.Origin.{Origin};
 ghost use Rattle.tree_config.specs.Planned.{IsSource};
 ghost use Rattle.entropy_source.specs.Source.{blocks_for, need_of, need_of_block};
 ghost use Rattle.rbg_nodes.specs.Node.{entropy_len};
-ghost use Rattle.tree_core.specs.Slots.{node_plan, source_row_of};
-ghost use Rattle.tree_core.specs.Links.{wanted, must_seed};
+ghost use Rattle.tree_rules.specs.Slots.{node_plan, source_row_of};
+ghost use Rattle.tree_rules.specs.Links.{wanted, must_seed};
 ghost use Rattle.tree_core.specs.Plain.{link_of, are_some, draws_on};
 
 use crate::walk::{Asked, Step};

@@ -3,18 +3,18 @@ ghost use Rattle.std.specs.Prelude.{◌≡◌, ◌≤◌, ◌<◌, ◌^◌, ◌�
 ghost use Rattle.tree_config.specs.declared.plan.Origin.{Origin};
 ghost use Rattle.rbg_bytes.specs.Kinds.{strength};
 ghost use Rattle.rbg_nodes.specs.Node.{is_due};
-ghost use Rattle.tree_core.specs.Slots.{node_row};
-ghost use Rattle.tree_core.specs.Links.{is_alive, is_rbg1};
-ghost use Rattle.tree_core.specs.Chain.{named, asks_pr, task_of};
-ghost use Rattle.tree_core.specs.Replies.{reply_row, first_reply, is_instantiate, is_reseed, is_start, seeds_or_gives, needs_life, asked_count, asked_strength, there_are, count_limit, is_running, error_test, error_index, plain_rows, rows_by, sample_limit};
+ghost use Rattle.tree_rules.specs.Slots.{node_row};
+ghost use Rattle.tree_rules.specs.Links.{is_alive, is_rbg1};
+ghost use Rattle.tree_rules.specs.Chain.{named, asks_pr, task_of};
+ghost use Rattle.tree_rules.specs.Replies.{reply_row, first_reply, is_instantiate, is_reseed, is_start, seeds_or_gives, needs_life, asked_count, asked_strength, there_are, count_limit, is_running, error_test, error_index, plain_rows, rows_by, sample_limit};
 ghost use Rattle.tree_core.specs.Plain.{node_of, link_of, task_in};
 
-use crate::call::Call;
-use crate::reply::{Reply, ReplyRow};
+use crate::row::ReplyRow;
 use crate::walk::{Asked, Step};
 use entropy_source::SourceMode;
 use health_tests::Test;
 use tree_config::{NodeKind, TreePlan};
+use tree_rules::{Call, Reply};
 
 // The parts of a call.
 impl Call {

@@ -5,8 +5,8 @@ ghost use Rattle.tree_config.specs.Tree.{parent_in};
 ghost use Rattle.rbg_nodes.specs.Node.{entropy_len, is_due};
 ghost use Rattle.rbg_nodes.specs.Views.{row_of};
 ghost use Rattle.tree_core.specs.declared.plain.PlainSource.{PlainSource};
-ghost use Rattle.tree_core.specs.Slots.{node_plan, ancestors};
-ghost use Rattle.tree_core.specs.Links.{link, links, last_link, is_alive, must_seed, seeding_len};
+ghost use Rattle.tree_rules.specs.Slots.{node_plan, ancestors};
+ghost use Rattle.tree_rules.specs.Links.{link, links, last_link, is_alive, must_seed, seeding_len};
 ghost use Rattle.tree_core.specs.Plain.{node_of, task_in, link_of, plain_states};
 
 use crate::plain::PlainNode;

@@ -3,13 +3,13 @@ use Rattle.std.specs.Prelude.{◌&&◌, Option, Some, None, unwrap_or, slice_get
 use Rattle.tree_config.specs.declared.plan.SourcePlan.{SourcePlan}
 use Rattle.tree_config.specs.Tree.{Tree, parent_in}
 use Rattle.entropy_source.specs.Source.{need_of}
-use Rattle.tree_core.specs.declared.reply.ReplyRow.{ReplyRow}
+use Rattle.tree_core.specs.declared.row.ReplyRow.{ReplyRow}
 use Rattle.tree_core.specs.declared.walk.Asked.{Asked}
-use Rattle.tree_core.specs.Slots.{node_plan, ancestors, no_source, source_row, source_row_of}
-use Rattle.tree_core.specs.History.{States}
-use Rattle.tree_core.specs.Links.{Link, Task, link, links, last_link, wanted}
-use Rattle.tree_core.specs.Chain.{named, asks_pr, task_of, node_chain}
-use Rattle.tree_core.specs.Replies.{first_reply, is_instantiate}
+use Rattle.tree_rules.specs.Slots.{node_plan, ancestors, no_source, source_row, source_row_of}
+use Rattle.tree_rules.specs.History.{States}
+use Rattle.tree_rules.specs.Links.{Link, Task, link, links, last_link, wanted}
+use Rattle.tree_rules.specs.Chain.{named, asks_pr, task_of, node_chain}
+use Rattle.tree_rules.specs.Replies.{first_reply, is_instantiate}
 use Rattle.tree_core.specs.Plain.{link_of, task_in, plain_states, draws_on}
 use Rattle.tree_core.proofs.Plainly.{cut_rows, without_source, with_a_source}
 use Rattle.tree_core.proofs.reference.node_refusal.Goals as goal

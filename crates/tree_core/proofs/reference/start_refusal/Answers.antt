@@ -2,9 +2,9 @@ use Rattle.std.proofs.Common.{List, [], ap, sym, ◌≡◌, ◌∙◌}
 use Rattle.std.specs.Prelude.{Option, unwrap_or}
 use Rattle.tree_config.specs.declared.plan.SourcePlan.{SourcePlan}
 use Rattle.tree_config.specs.declared.plan.Origin.TheVariants.{SeedFile}
-use Rattle.tree_core.specs.declared.reply.ReplyRow.{ReplyRow}
-use Rattle.tree_core.specs.Slots.{no_source, source_row}
-use Rattle.tree_core.specs.Replies.{first_reply}
+use Rattle.tree_core.specs.declared.row.ReplyRow.{ReplyRow}
+use Rattle.tree_rules.specs.Slots.{no_source, source_row}
+use Rattle.tree_rules.specs.Replies.{first_reply}
 use Rattle.tree_core.specs.Plain.{link_of}
 use Rattle.tree_core.proofs.Plainly.{start_rows}
 use Rattle.tree_core.proofs.reference.start_refusal.Goals as goal

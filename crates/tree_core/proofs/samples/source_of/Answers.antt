@@ -3,8 +3,8 @@ use Rattle.std.specs.Prelude.{◌&&◌, if◌then◌else◌, Option, None, unwra
 use Rattle.tree_config.specs.declared.plan.NodePlan.{NodePlan}
 use Rattle.tree_config.specs.declared.plan.Origin.{Origin}
 use Rattle.tree_config.specs.declared.plan.Origin.TheVariants as origins
-use Rattle.tree_core.specs.Slots.{node_plan, no_node}
-use Rattle.tree_core.specs.Links.{Link, is_alive, wanted}
+use Rattle.tree_rules.specs.Slots.{node_plan, no_node}
+use Rattle.tree_rules.specs.Links.{Link, is_alive, wanted}
 use Rattle.tree_core.specs.Plain.{link_of, are_some, number_in}
 use Rattle.tree_core.proofs.samples.source_of.Goals as goal
 

@@ -1,8 +1,8 @@
 use Rattle.std.proofs.Common.{ℕ, List, ◌∷◌, ◌≡◌, ◌≢◌, ◌-◌, true, ap, sym, ◌∙◌, rules}
 use Rattle.std.specs.Prelude.{◌&&◌}
 use Rattle.tree_config.specs.Tree.{parent_in}
-use Rattle.tree_core.specs.Slots.{node_plan, ancestors}
-use Rattle.tree_core.specs.Links.{Link, Gives, link, links, last_link, is_alive, must_seed, seeding_len}
+use Rattle.tree_rules.specs.Slots.{node_plan, ancestors}
+use Rattle.tree_rules.specs.Links.{Link, Gives, link, links, last_link, is_alive, must_seed, seeding_len}
 use Rattle.tree_core.specs.Plain.{link_of, task_in, plain_states}
 use Rattle.tree_core.specs.declared.walk.Asked.{Asked}
 use Rattle.tree_core.proofs.Walks.{goes_on}

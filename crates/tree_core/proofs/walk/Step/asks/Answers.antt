@@ -1,6 +1,6 @@
 use Rattle.std.proofs.Common.{Bool, ap, sym, ◌∙◌}
 use Rattle.std.specs.Prelude.{◌&&◌}
-use Rattle.tree_core.specs.Links.{must_seed}
+use Rattle.tree_rules.specs.Links.{must_seed}
 use Rattle.tree_core.specs.Plain.{link_of}
 use Rattle.tree_core.proofs.walk.Step.asks.Goals as goal
 

@@ -4,8 +4,8 @@ use Rattle.tree_config.specs.declared.plan.NodeKind.{NodeKind}
 use Rattle.entropy_source.specs.Source.{blocks_for}
 use Rattle.rbg_nodes.specs.Node.{New, Renew, entropy_len}
 use Rattle.tree_core.specs.declared.walk.Asked.{Asked}
-use Rattle.tree_core.specs.Slots.{source_row_of}
-use Rattle.tree_core.specs.Links.{is_rs}
+use Rattle.tree_rules.specs.Slots.{source_row_of}
+use Rattle.tree_rules.specs.Links.{is_rs}
 use Rattle.tree_core.specs.Plain.{link_of, task_in}
 use Rattle.tree_core.proofs.Counted.{of_seeding, of_chunks}
 use Rattle.tree_core.proofs.walk.Step.blocks.Goals as goal

@@ -1,0 +1,20 @@
+//! The rules of the tree of generators: what its calls and their histories are, and the laws above them. No call with its effect
+//! stands here.
+//!
+//! - `call`: the calls of a tree;
+//! - `reply`: the answer to a call;
+//! - `laws`: what holds of every entry that is right, and of every history of such entries.
+#![tactic(auto)]
+
+mod call;
+mod laws;
+mod reply;
+
+pub use call::Call;
+pub use laws::{
+    chains_lie_on_paths, depths_count_paths, entries_leave_other_slots, entries_read_their_chain,
+    histories_are_legal, histories_have_parts, no_sample_is_used_twice, refusals_change_no_node,
+    right_is_fitting, running_sources_had_no_alarm, sources_are_quiet_after_alarms,
+    sources_draw_or_start, states_are_folds,
+};
+pub use reply::Reply;
