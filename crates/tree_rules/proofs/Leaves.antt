@@ -19,14 +19,14 @@ use Rattle.tree_rules.specs.declared.call.Call.{Call}
 use Rattle.tree_rules.specs.declared.call.Call.TheVariants.{Generate, Instantiate, Reseed, Start, Status, Uninstantiate}
 use Rattle.tree_rules.specs.declared.reply.Reply.{Reply}
 
-abbrev slots : List Link → List ℕ
+abbrev pub slots : List Link → List ℕ
 slots ls = map (λ (l : Link). l.slot) ls
 
-or_false : (a b : Bool) → (a || b) ≡ false → (a ≡ false) × (b ≡ false)
+pub or_false : (a b : Bool) → (a || b) ≡ false → (a ≡ false) × (b ≡ false)
 or_false true b h = (h, cc)
 or_false false b h = (refl, h)
 
-has_split : (xs ys : List ℕ) (k : ℕ) → has (xs ++ ys) k ≡ false → (has xs k ≡ false) × (has ys k ≡ false)
+pub has_split : (xs ys : List ℕ) (k : ℕ) → has (xs ++ ys) k ≡ false → (has xs k ≡ false) × (has ys k ≡ false)
 has_split [] ys k h = (refl, h)
 has_split (x ∷ xs) ys k h =
     let d = or_false (x == k) (has (xs ++ ys) k) h in
@@ -43,10 +43,10 @@ own-append k (a ∷ xs) ys = by (a.slot == k) (own-append k xs ys) where
   by true e = ap (λ z. a.act ∷ z) e
   by false e = e
 
-own_both : (k : ℕ) (xs ys : List Act) → own k xs ≡ [] → own k ys ≡ [] → own k (xs ++ ys) ≡ []
+pub own_both : (k : ℕ) (xs ys : List Act) → own k xs ≡ [] → own k ys ≡ [] → own k (xs ++ ys) ≡ []
 own_both k xs ys e f = rw (own-append k xs ys, e, f) refl
 
-own_sources : (k : ℕ) (t : SourceLink) (acts : List SourceAct) → has (slots_of_source (Some t)) k ≡ false → own k (map (at_source t) acts) ≡ []
+pub own_sources : (k : ℕ) (t : SourceLink) (acts : List SourceAct) → has (slots_of_source (Some t)) k ≡ false → own k (map (at_source t) acts) ≡ []
 own_sources k t [] h = refl
 own_sources k t (a ∷ acts) h =
     if_false (t.slot == k) ((at_source t a).act ∷ own k (map (at_source t) acts)) (own k (map (at_source t) acts)) (or_false (t.slot == k) false h).0
@@ -72,7 +72,7 @@ module _ (k : ℕ) (l : Link) (off : (l.slot == k) ≡ false) where
   own_gives true w v e f = e
   own_gives false w v e f = f
 
-  own_task : (pr : Bool) (drawn : List (List ℕ)) (string above : List ℕ) (task : Task) → own k (task_work pr drawn string l above task).acts ≡ []
+  pub own_task : (pr : Bool) (drawn : List (List ℕ)) (string above : List ℕ) (task : Task) → own k (task_work pr drawn string l above task).acts ≡ []
   own_task pr drawn string above (Seeds how) = rw off refl
   own_task pr drawn string above Rests = refl
   own_task pr drawn string above (Gives len) =
@@ -81,7 +81,7 @@ module _ (k : ℕ) (l : Link) (off : (l.slot == k) ≡ false) where
       (own_chunked l.state string drawn (chunks l.row len))
       (own_mixed (is_xor l.row.kind) given (xor_bytes given.bytes (last_drawn drawn)) (own_given (must_seed pr l) (material l drawn above) string len))
 
-own_worked : (k : ℕ) (pr : Bool) (drawn : List (List ℕ)) (string : List ℕ) (ls : List Link) → has (slots ls) k ≡ false
+pub own_worked : (k : ℕ) (pr : Bool) (drawn : List (List ℕ)) (string : List ℕ) (ls : List Link) → has (slots ls) k ≡ false
     → own k (worked pr drawn string ls).acts ≡ []
 own_worked k pr drawn string [] h = refl
 own_worked k pr drawn string (l ∷ up) h =

@@ -8,6 +8,7 @@
 
 mod call;
 mod laws;
+mod openings;
 mod reply;
 
 pub use call::Call;
@@ -17,4 +18,5 @@ pub use laws::{
     right_is_fitting, running_sources_had_no_alarm, sources_are_quiet_after_alarms,
     sources_draw_or_start, states_are_folds,
 };
-pub use reply::Reply;
+pub use openings::{histories_are_right_as_a_whole, histories_go_on};
+pub use reply::{Reply, ReplyRow};

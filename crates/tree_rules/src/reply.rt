@@ -9,3 +9,10 @@ pub struct Reply {
     pub b: u64,
     pub len: u32,
 }
+
+/// A row of the table of refusals: whether it stands, and its reply.
+#[derive(Clone, Copy, Debug)]
+pub struct ReplyRow {
+    pub stands: bool,
+    pub reply: Reply,
+}
