@@ -10,5 +10,7 @@ pub mod Rightness
 pub mod Running
 pub mod Paths
 pub mod Parts
+pub mod Endings
+pub mod Answered
 mod Rows
 pub mod Depths

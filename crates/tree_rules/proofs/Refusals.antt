@@ -1,5 +1,5 @@
 -- A refusal of the table does nothing, and no refusal changes a node.
-use Rattle.std.proofs.Common.{◌≡◌, ◌++◌, ◌∷◌, ◌≢◌, ℕ, List, [], zero, suc, Bool, true, false, map, refl, sym, subst, ne_eqb}
+use Rattle.std.proofs.Common.{◌≡◌, ◌++◌, ◌∷◌, ◌≢◌, ◌<◌, ℕ, List, [], zero, suc, Bool, true, false, map, refl, sym, subst, ne_eqb, arith}
 use Rattle.std.specs.Prelude.{◌==◌, if◌then◌else◌, Option, Some, None, Result, Ok, Err, MatchOption, MatchResult}
 use Rattle.entropy_source.specs.Draws.{portions}
 use Rattle.entropy_source.specs.Source.{SourceAct}
@@ -7,15 +7,18 @@ use Rattle.entropy_source.specs.declared.answers.SourceRefusal.{SourceRefusal}
 use Rattle.health_tests.specs.declared.windows.Alarm.{Alarm}
 use Rattle.rbg_nodes.specs.Node.{NodeState}
 use Rattle.tree_config.specs.Tree.{Tree}
+use Rattle.tree_rules.specs.Causes.{IsOfTable}
 use Rattle.tree_rules.specs.Chain.{Chain, SourceLink, asks_pr, wants}
 use Rattle.tree_rules.specs.Fits.{AnswersBy, DrawsAndWorks, Fits, Serves, Starts, at_source, done, found_by, source_reply}
 use Rattle.tree_rules.specs.History.{Act, AtSource, Entry, NodeIs, States, after, own, slot_after_all}
 use Rattle.tree_rules.specs.Links.{Link}
-use Rattle.tree_rules.specs.Replies.{chain_of, refusal}
+use Rattle.tree_rules.specs.Replies.{chain_of, chain_rows, first_reply, plain_rows, refusal}
+use Rattle.tree_rules.specs.Served.{Served, entry_of}
 use Rattle.tree_rules.specs.Works.{worked}
 use Rattle.tree_rules.specs.declared.call.Call.{Call}
 use Rattle.tree_rules.specs.declared.call.Call.TheVariants.{Generate, Instantiate, Reseed, Start, Status, Uninstantiate}
 use Rattle.tree_rules.specs.declared.reply.Reply.{Reply}
+use Rattle.tree_rules.specs.declared.reply.ReplyRow.{ReplyRow}
 use Rattle.tree_rules.proofs.Quieting.{refusal_coded}
 
 not_both : (b : Bool) → b ≡ true → b ≡ false → ⊥
@@ -86,3 +89,76 @@ pub nodes_stay : (p : Tree) (s : States) (e : Entry) → Fits p s e → e.reply.
 nodes_stay p s e f code k x =
     let ch = chain_of p s e.call e.string in
     by_whole p k x e (ne_eqb e.reply.code 0 code) (found_by ch.source) ch (refusal p e.call e.string ch) f.answer
+
+-- no row of the table has bytes
+abbrev AreBare : List ReplyRow → Type 0
+AreBare [] = Unit {0}
+AreBare (r ∷ rows) = (r.reply.len ≡ 0) × AreBare rows
+
+bare : (rows : List ReplyRow) (x : Reply) → AreBare rows → first_reply rows ≡ Some x → x.len ≡ 0
+bare [] x h i = cc
+bare (r ∷ rows) x (h, hs) i = by r.stands (λ j. bare rows x hs j) i where
+  by : (b : Bool) → (first_reply rows ≡ Some x → x.len ≡ 0) → (if b then Some r.reply else first_reply rows) ≡ Some x → x.len ≡ 0
+  by true more i = let is : r.reply ≡ x = cc in subst (λ (z : Reply). z.len ≡ 0) is h
+  by false more i = more i
+
+pub bare_refusal : (p : Tree) (c : Call) (string : List ℕ) (ch : Chain) (r : Reply) → refusal p c string ch ≡ Some r → r.len ≡ 0
+bare_refusal p c string ch r h =
+    bare (plain_rows p c string ++ chain_rows c ch) r (refl, (refl, (refl, (refl, (refl, (refl, (refl, (refl, (refl, (refl, (refl, tt))))))))))) h
+
+-- a call that the table refuses is served between equal states, without an act
+pub refused_served : (p : Tree) (s : States) (c : Call) (string : List ℕ) (r : Reply) → refusal p c string (chain_of p s c string) ≡ Some r → Served p s s c string r []
+refused_served p s c string r is = record {
+  acts = [];
+  fits = λ caller. record { chain_is = refl; answer = by caller (refusal p c string (chain_of p s c string)) is };
+  leaves = λ k. refl;
+} where
+  by : (caller : ℕ) (o : Option Reply) → o ≡ Some r
+      → MatchOption o (Serves (found_by (chain_of p s c string).source) (chain_of p s c string) (entry_of p s c string r [] [] caller) c)
+      (λ reply. AnswersBy (entry_of p s c string r [] [] caller) [] reply [])
+  by caller None e = cc
+  by caller (Some x) e = let same : x ≡ r = cc in record { acts_are = refl; reply_is = sym same; bytes_are = refl }
+
+-- every row of the table has one of its codes
+abbrev AreCoded : List ReplyRow → Type 0
+AreCoded [] = Unit {0}
+AreCoded (r ∷ rows) = IsOfTable r.reply.code × AreCoded rows
+
+of_table : (rows : List ReplyRow) (x : Reply) → AreCoded rows → first_reply rows ≡ Some x → IsOfTable x.code
+of_table [] x h i = cc
+of_table (r ∷ rows) x (h, hs) i = by r.stands (λ j. of_table rows x hs j) i where
+  by : (b : Bool) → (first_reply rows ≡ Some x → IsOfTable x.code) → (if b then Some r.reply else first_reply rows) ≡ Some x → IsOfTable x.code
+  by true more i = let is : r.reply ≡ x = cc in subst (λ (z : Reply). IsOfTable z.code) is h
+  by false more i = more i
+
+at_code : (n : ℕ) → 0 < n → n < 12 → IsOfTable n
+at_code n a b = record { low = a; high = b }
+
+pub coded_by_table : (p : Tree) (c : Call) (string : List ℕ) (ch : Chain) (r : Reply) → refusal p c string ch ≡ Some r → IsOfTable r.code
+coded_by_table p c string ch r h =
+    let at : (n : ℕ) → 0 < n → n < 12 → IsOfTable n = at_code in
+    of_table (plain_rows p c string ++ chain_rows c ch) r (
+      at 1 (omega arith) (omega arith),
+      (
+        at 2 (omega arith) (omega arith),
+        (
+          at 2 (omega arith) (omega arith),
+          (
+            at 3 (omega arith) (omega arith),
+            (
+              at 4 (omega arith) (omega arith),
+              (
+                at 5 (omega arith) (omega arith),
+                (
+                  at 6 (omega arith) (omega arith),
+                  (
+                    at 7 (omega arith) (omega arith),
+                    (at 8 (omega arith) (omega arith), (at 10 (omega arith) (omega arith), (at 11 (omega arith) (omega arith), tt))),
+                  ),
+                ),
+              ),
+            ),
+          ),
+        ),
+      ),
+    ) h

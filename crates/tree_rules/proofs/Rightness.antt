@@ -216,7 +216,7 @@ module _ (found other : List ℕ → List ℕ → Option Alarm) where
     by (Some reply) r w = w
 
 -- in every legal history a source that runs has the numbers
-told_after : (p : Tree) (j : ℕ) (s : States) (es : List Entry) → IsSource (s (source_slot p j)) → RunsTold (source_in (s (source_slot p j))) → Legal p s es
+pub told_after : (p : Tree) (j : ℕ) (s : States) (es : List Entry) → IsSource (s (source_slot p j)) → RunsTold (source_in (s (source_slot p j))) → Legal p s es
     → RunsTold (source_in (states_after p s es (source_slot p j))) × IsSource (states_after p s es (source_slot p j))
 told_after p j s [] is h legal = (h, is)
 told_after p j s (e ∷ es) is h (fit, legal) =

@@ -42,7 +42,7 @@ skip true a x = refl
 skip false a x = refl
 
 module _ (k : ℕ) (l : Link) where
-  node_skip : (a : NodeAct) (rest : List Act) → at_slot k (at_node l a ∷ rest) ≡ at_slot k rest
+  pub node_skip : (a : NodeAct) (rest : List Act) → at_slot k (at_node l a ∷ rest) ≡ at_slot k rest
   node_skip a rest = skip (l.slot == k) a (own k rest)
 
   none_chunked : (s : NodeState) (add : List ℕ) (drawn : List (List ℕ)) (lens : List ℕ) → at_slot k (chunked l s add drawn lens).acts ≡ []
@@ -85,13 +85,13 @@ none_worked k pr drawn string (l ∷ up) =
     ∙ rw (none_worked k pr drawn [] up, none_task k l pr drawn string above.bytes l.task) refl
 
 -- source acts at their own slot, and at another
-here_all : (t : SourceLink) (acts : List SourceAct) → at_slot t.slot (map (at_source t) acts) ≡ acts
+pub here_all : (t : SourceLink) (acts : List SourceAct) → at_slot t.slot (map (at_source t) acts) ≡ acts
 here_all t [] = refl
 here_all t (a ∷ acts) =
     ap sources_in (ap (λ (b : Bool). if b then AtSource a ∷ own t.slot (map (at_source t) acts) else own t.slot (map (at_source t) acts)) (eq-eqb t.slot t.slot refl))
     ∙ ap (λ z. a ∷ z) (here_all t acts)
 
-else_all : (k : ℕ) (t : SourceLink) (acts : List SourceAct) → (t.slot == k) ≡ false → at_slot k (map (at_source t) acts) ≡ []
+pub else_all : (k : ℕ) (t : SourceLink) (acts : List SourceAct) → (t.slot == k) ≡ false → at_slot k (map (at_source t) acts) ≡ []
 else_all k t [] h = refl
 else_all k t (a ∷ acts) h =
     ap sources_in (ap (λ (b : Bool). if b then AtSource a ∷ own k (map (at_source t) acts) else own k (map (at_source t) acts)) h) ∙ else_all k t acts h

@@ -10,4 +10,5 @@ pub mod Apart
 pub mod Quiet
 pub mod Openings
 pub mod Served
+pub mod Causes
 pub mod Sources

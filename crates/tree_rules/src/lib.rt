@@ -7,11 +7,16 @@
 #![tactic(auto)]
 
 mod call;
+mod causes;
 mod laws;
 mod openings;
 mod reply;
 
 pub use call::Call;
+pub use causes::{
+    refusals_come_by_the_table, refused_calls_are_served, replies_have_causes,
+    running_sources_are_tested,
+};
 pub use laws::{
     chains_lie_on_paths, depths_count_paths, entries_leave_other_slots, entries_read_their_chain,
     histories_are_legal, histories_have_parts, no_sample_is_used_twice, refusals_change_no_node,

@@ -1,0 +1,51 @@
+-- Which reply comes of a call, and why: by the table of refusals, or by what the call's source read for it.
+-- This project's own; SP 800-90B 4.3 for the alarm.
+use Rattle.std.specs.Prelude.{◌≡◌, ◌≢◌, ◌<◌, ℕ, ◌+◌, ◌-◌, List, [], length, Bool, true, false, Option, Some, None}
+use Rattle.rbg_bytes.specs.Streams.{Rose}
+use Rattle.health_tests.specs.declared.windows.Alarm.{Alarm}
+use Rattle.health_tests.specs.Windows.{alarm_in}
+use Rattle.entropy_source.specs.Source.{SourceAct, SourceState, need_of_block}
+use Rattle.entropy_source.specs.Counted.{samples_of, lacking_after, gave_none, has_failed}
+use Rattle.tree_rules.specs.declared.call.Call.{Call}
+use Rattle.tree_rules.specs.declared.call.Call.TheVariants.{Start}
+use Rattle.tree_rules.specs.declared.reply.Reply.{Reply}
+use Rattle.tree_rules.specs.Chain.{SourceLink}
+use Rattle.tree_rules.specs.Replies.{test_number}
+use Rattle.tree_rules.specs.Fits.{refused, found_by}
+
+-- a code of the table of refusals, which come before any sample is read
+pub record IsOfTable (code : ℕ) : Type 0 where
+  pub low : 0 < code
+  pub high : code < 12
+
+-- SourceFault exactly where a read failed, with the fault count now, which rose; otherwise that count is as it was
+abbrev pub FaultsWhere : ℕ → ℕ → ℕ → Bool → Reply → Type 0
+FaultsWhere j before now true r = (r ≡ refused 12 now j) × Rose before now
+FaultsWhere j before now false r = (r.code ≢ 12) × (now ≡ before)
+
+-- HealthFailed exactly where there is a first alarm among the samples that were read, with its place among all samples and its test
+abbrev pub FailsAt : ℕ → Option Alarm → Reply → Type 0
+FailsAt taken None r = r.code ≢ 13
+FailsAt taken (Some a) r = r ≡ refused 13 (taken + a.at) (test_number a.test)
+
+-- WantOfEntropy exactly where a read gave no sample, with what was missing then
+abbrev pub WantsWhere : ℕ → Bool → ℕ → Reply → Type 0
+WantsWhere j true missing r = r ≡ refused 14 missing j
+WantsWhere j false missing r = r.code ≢ 14
+
+-- the first alarm among samples of a call: behind none for a Start, else behind what the tests kept before the call
+abbrev pub alarm_among : Call → SourceLink → List ℕ → Option Alarm
+alarm_among (Start j) t samples = alarm_in t.row.cutoffs [] samples
+alarm_among c t samples = found_by (Some t) [] samples
+
+-- what the start-up lacked after acts, or the block that was begun last
+abbrev pub missing_after : Call → SourceLink → List SourceAct → ℕ
+missing_after (Start j) t acts = t.row.startup - length (samples_of acts)
+missing_after c t acts = lacking_after (need_of_block t.row) (need_of_block t.row) acts
+
+-- the reply by the acts of the call's source, which leave it in the state `now`: each refusal has its cause, and without one it is Done
+pub record HasCause (c : Call) (t : SourceLink) (acts : List SourceAct) (now : SourceState) (r : Reply) : Type 0 where
+  pub fault : FaultsWhere t.number t.state.faults now.faults (has_failed acts) r
+  pub health : FailsAt t.state.taken (alarm_among c t (samples_of acts)) r
+  pub want : WantsWhere t.number (gave_none acts) (missing_after c t acts) r
+  pub done : has_failed acts ≡ false → alarm_among c t (samples_of acts) ≡ None → gave_none acts ≡ false → r.code ≡ 0

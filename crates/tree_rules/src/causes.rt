@@ -1,0 +1,52 @@
+// Laws on replies: why each one comes. Each is a function without a body of its own, whose contract is the law; no program calls them.
+ghost use Rattle.std.specs.Prelude.{◌≡◌, ◌↔◌, ℕ, List, [], true, IsSome, Some, None};
+ghost use Rattle.tree_config.specs.Tree.{Tree};
+ghost use Rattle.tree_config.specs.Planned.{IsPlanned};
+ghost use Rattle.entropy_source.specs.Source.{source_after_all};
+ghost use Rattle.tree_rules.specs.declared.call.Call.{Call};
+ghost use Rattle.tree_rules.specs.declared.reply.Reply.{Reply};
+ghost use Rattle.tree_rules.specs.Slots.{source_slot};
+ghost use Rattle.tree_rules.specs.History.{Entry, Opening, States, at_slot, opened, source_in, states_after};
+ghost use Rattle.tree_rules.specs.Chain.{Chain, SourceLink};
+ghost use Rattle.tree_rules.specs.Replies.{chain_of, is_running, refusal};
+ghost use Rattle.tree_rules.specs.Fits.{Fits, Legal};
+ghost use Rattle.tree_rules.specs.Served.{Served};
+ghost use Rattle.tree_rules.specs.Causes.{IsOfTable, HasCause};
+
+use entropy_source::{draws_end_by_their_reads, starts_end_by_their_reads};
+
+/// A reply of the table of refusals comes exactly where its row is the first that stands, and no other reply has one of the table's
+/// codes, 1 to 11.
+pub fn refusals_come_by_the_table()
+    ensures exact { (p : Tree) (s : States) (e : Entry) (r : Reply) → Fits p s e →
+        (refusal p e.call e.string (chain_of p s e.call e.string) ≡ Some r ↔ ((e.reply ≡ r) × IsOfTable r.code)) }
+    ensures bytes { (p : Tree) (c : Call) (string : List ℕ) (ch : Chain) (r : Reply) → refusal p c string ch ≡ Some r → r.len ≡ 0 }
+{}
+
+/// A call that the table refuses is served with that reply, without an act and without bytes, between equal states.
+pub fn refused_calls_are_served()
+    ensures { (p : Tree) (s : States) (c : Call) (string : List ℕ) (r : Reply) →
+        refusal p c string (chain_of p s c string) ≡ Some r → Served p s s c string r [] }
+{}
+
+/// A call that the table does not refuse is Done where it needs no source. Else its reply has its cause in what the source read:
+/// SourceFault exactly where a read failed, HealthFailed exactly at a first alarm among the samples read, WantOfEntropy exactly where a
+/// read gave none, and Done where there is none of these. The tests of a source that runs keep something.
+pub fn replies_have_causes()
+    ensures alone { (p : Tree) (s : States) (e : Entry) → Fits p s e → refusal p e.call e.string (chain_of p s e.call e.string) ≡ None →
+        (chain_of p s e.call e.string).source ≡ None → e.reply.code ≡ 0 }
+    ensures source { (least : ℕ) (p : Tree) (s : States) (e : Entry) (t : SourceLink) → IsPlanned least p → Fits p s e →
+        refusal p e.call e.string (chain_of p s e.call e.string) ≡ None → (chain_of p s e.call e.string).source ≡ Some t →
+        (is_running t.state.mode ≡ true → IsSome t.state.tail) →
+        HasCause e.call t (at_slot t.slot e.acts) (source_after_all t.row t.state (at_slot t.slot e.acts)) e.reply }
+{
+    draws_end_by_their_reads();
+    starts_end_by_their_reads();
+}
+
+/// After a legal history the tests of a source that runs keep something.
+pub fn running_sources_are_tested()
+    ensures { (f : Opening) (h : List Entry) (j : ℕ) → Legal f.plan (opened f) h →
+        is_running (source_in (states_after f.plan (opened f) h (source_slot f.plan j))).mode ≡ true →
+        IsSome (source_in (states_after f.plan (opened f) h (source_slot f.plan j))).tail }
+{}
