@@ -12,5 +12,8 @@ pub mod Paths
 pub mod Parts
 pub mod Endings
 pub mod Answered
+pub mod Told
+pub mod Complete
+pub mod Freeing
 mod Rows
 pub mod Depths

@@ -165,7 +165,7 @@ runs p c string ch h start more =
     three (nat_lt 0 (need c ch)) (is_running (mode_of ch.source)) (is_start c) all.1.1.1.1.1.1.1.1.1.1.0 more start
 
 -- a source's refusal is never Done
-not_done : (j : ℕ) (why : SourceRefusal) → ((source_reply j why).code == 0) ≡ false
+pub not_done : (j : ℕ) (why : SourceRefusal) → ((source_reply j why).code == 0) ≡ false
 not_done j (SourceSpent a b) = refl
 not_done j (InError causes.NotStarted) = refl
 not_done j (InError (causes.Alarm a b)) = refl

@@ -1,17 +1,23 @@
 -- Which reply comes of a call, and why: by the table of refusals, or by what the call's source read for it.
 -- This project's own; SP 800-90B 4.3 for the alarm.
-use Rattle.std.specs.Prelude.{◌≡◌, ◌≢◌, ◌<◌, ℕ, ◌+◌, ◌-◌, List, [], length, Bool, true, false, Option, Some, None}
+use Rattle.std.specs.Prelude.{◌≡◌, ◌≢◌, ◌<◌, ◌≤◌, ℕ, zero, suc, ◌+◌, ◌-◌, List, [], ◌++◌, length, take, drop, map, sum, Bool, true, false, Option, Some, None}
 use Rattle.rbg_bytes.specs.Streams.{Rose}
 use Rattle.health_tests.specs.declared.windows.Alarm.{Alarm}
 use Rattle.health_tests.specs.Windows.{alarm_in}
-use Rattle.entropy_source.specs.Source.{SourceAct, SourceState, need_of_block}
+use Rattle.conditioner.specs.Conditioned.{conditioned}
+use Rattle.entropy_source.specs.declared.answers.SourceRow.{SourceRow}
+use Rattle.entropy_source.specs.Source.{SourceAct, SourceState, blocks_for, need_of_block}
 use Rattle.entropy_source.specs.Counted.{samples_of, lacking_after, gave_none, has_failed}
 use Rattle.tree_rules.specs.declared.call.Call.{Call}
-use Rattle.tree_rules.specs.declared.call.Call.TheVariants.{Start}
+use Rattle.tree_rules.specs.declared.call.Call.TheVariants.{Start, Status, Uninstantiate}
 use Rattle.tree_rules.specs.declared.reply.Reply.{Reply}
-use Rattle.tree_rules.specs.Chain.{SourceLink}
+use Rattle.entropy_source.specs.Draws.{portions}
+use Rattle.tree_rules.specs.History.{Entry}
+use Rattle.tree_rules.specs.Links.{first_link}
+use Rattle.tree_rules.specs.Chain.{Chain, SourceLink, asks_pr, wants}
+use Rattle.tree_rules.specs.Works.{worked}
 use Rattle.tree_rules.specs.Replies.{test_number}
-use Rattle.tree_rules.specs.Fits.{refused, found_by}
+use Rattle.tree_rules.specs.Fits.{done, refused, found_by, status_bytes}
 
 -- a code of the table of refusals, which come before any sample is read
 pub record IsOfTable (code : ℕ) : Type 0 where
@@ -49,3 +55,32 @@ pub record HasCause (c : Call) (t : SourceLink) (acts : List SourceAct) (now : S
   pub health : FailsAt t.state.taken (alarm_among c t (samples_of acts)) r
   pub want : WantsWhere t.number (gave_none acts) (missing_after c t acts) r
   pub done : has_failed acts ≡ false → alarm_among c t (samples_of acts) ≡ None → gave_none acts ≡ false → r.code ≡ 0
+
+-- so many conditioned blocks of samples, one behind the other
+abbrev pub blocks_told : SourceRow → ℕ → List ℕ → List ℕ
+blocks_told row zero left = []
+blocks_told row (suc n) left = conditioned row.cond (take (need_of_block row) left) ++ blocks_told row n (drop (need_of_block row) left)
+
+-- Nothing keeps the source of a call from serving it: it tells its samples, as many are left as the call takes, there is no first alarm
+-- among these, and its fault count doesn't rise.
+pub record HasEnough (c : Call) (t : SourceLink) (samples : ℕ) (left : List ℕ) (now : SourceState) : Type 0 where
+  pub told : t.state.told ≡ Some left
+  pub enough : samples ≤ length left
+  pub quiet : alarm_among c t (take samples left) ≡ None
+  pub kept : ¬ Rose t.state.faults now.faults
+
+-- the strings that a call draws of the samples that are left, and the bytes of its reply when it is Done
+abbrev pub drawn_of : Call → Chain → Option SourceLink → List ℕ → List (List ℕ)
+drawn_of c ch None left = []
+drawn_of c ch (Some t) left = portions t.row (wants c ch) (blocks_told t.row (sum (map (λ n. blocks_for t.row n) (wants c ch))) left)
+
+abbrev pub bytes_of : Call → List ℕ → Chain → List ℕ → List ℕ
+bytes_of (Uninstantiate n) string ch left = []
+bytes_of (Start j) string ch left = []
+bytes_of (Status n) string ch left = status_bytes (first_link ch.links).state
+bytes_of c string ch left = (worked (asks_pr c) (drawn_of c ch ch.source left) string ch.links).bytes
+
+-- Done, with exactly these bytes
+pub record IsDone (bytes : List ℕ) (e : Entry) : Type 0 where
+  pub reply_is : e.reply ≡ done bytes
+  pub bytes_are : e.bytes ≡ bytes

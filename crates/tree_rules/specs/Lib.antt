@@ -11,4 +11,5 @@ pub mod Quiet
 pub mod Openings
 pub mod Served
 pub mod Causes
+pub mod Free
 pub mod Sources

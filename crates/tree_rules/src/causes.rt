@@ -7,11 +7,12 @@ ghost use Rattle.tree_rules.specs.declared.call.Call.{Call};
 ghost use Rattle.tree_rules.specs.declared.reply.Reply.{Reply};
 ghost use Rattle.tree_rules.specs.Slots.{source_slot};
 ghost use Rattle.tree_rules.specs.History.{Entry, Opening, States, at_slot, opened, source_in, states_after};
-ghost use Rattle.tree_rules.specs.Chain.{Chain, SourceLink};
+ghost use Rattle.tree_rules.specs.Chain.{Chain, SourceLink, need, whole_chain};
 ghost use Rattle.tree_rules.specs.Replies.{chain_of, is_running, refusal};
 ghost use Rattle.tree_rules.specs.Fits.{Fits, Legal};
 ghost use Rattle.tree_rules.specs.Served.{Served};
-ghost use Rattle.tree_rules.specs.Causes.{IsOfTable, HasCause};
+ghost use Rattle.tree_rules.specs.Causes.{IsOfTable, HasCause, HasEnough, IsDone, bytes_of};
+ghost use Rattle.tree_rules.specs.Free.{IsFree};
 
 use entropy_source::{draws_end_by_their_reads, starts_end_by_their_reads};
 
@@ -39,6 +40,29 @@ pub fn replies_have_causes()
         refusal p e.call e.string (chain_of p s e.call e.string) ≡ None → (chain_of p s e.call e.string).source ≡ Some t →
         (is_running t.state.mode ≡ true → IsSome t.state.tail) →
         HasCause e.call t (at_slot t.slot e.acts) (source_after_all t.row t.state (at_slot t.slot e.acts)) e.reply }
+{
+    draws_end_by_their_reads();
+    starts_end_by_their_reads();
+}
+
+/// No row of the table of refusals stands exactly where the call may be made in a caller's words, by its whole chain.
+pub fn calls_are_free_where_they_may_be_made()
+    ensures exact { (p : Tree) (s : States) (c : Call) (string : List ℕ) →
+        (refusal p c string (chain_of p s c string) ≡ None ↔ IsFree p c string (whole_chain p s c)) }
+    ensures whole { (p : Tree) (s : States) (c : Call) (string : List ℕ) → refusal p c string (chain_of p s c string) ≡ None →
+        chain_of p s c string ≡ whole_chain p s c }
+{}
+
+/// A call that may be made is Done, with exactly the bytes that its chain and its source's samples say, where it needs no source, or
+/// where its source tells its samples, as many are left as the call takes, there is no alarm among them and its fault count doesn't rise.
+pub fn calls_that_may_be_made_are_done()
+    ensures alone { (p : Tree) (s : States) (e : Entry) → Fits p s e → refusal p e.call e.string (chain_of p s e.call e.string) ≡ None →
+        (chain_of p s e.call e.string).source ≡ None → IsDone (bytes_of e.call e.string (chain_of p s e.call e.string) []) e }
+    ensures told { (least : ℕ) (p : Tree) (s : States) (e : Entry) (t : SourceLink) (left : List ℕ) → IsPlanned least p → Fits p s e →
+        refusal p e.call e.string (chain_of p s e.call e.string) ≡ None → (chain_of p s e.call e.string).source ≡ Some t →
+        (is_running t.state.mode ≡ true → IsSome t.state.tail) →
+        HasEnough e.call t (need e.call (chain_of p s e.call e.string)) left (source_after_all t.row t.state (at_slot t.slot e.acts)) →
+        IsDone (bytes_of e.call e.string (chain_of p s e.call e.string) left) e }
 {
     draws_end_by_their_reads();
     starts_end_by_their_reads();
