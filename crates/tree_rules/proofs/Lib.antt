@@ -15,5 +15,6 @@ pub mod Answered
 pub mod Told
 pub mod Complete
 pub mod Freeing
+pub mod Leaving
 mod Rows
 pub mod Depths

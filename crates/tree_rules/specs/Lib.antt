@@ -12,4 +12,5 @@ pub mod Openings
 pub mod Served
 pub mod Causes
 pub mod Free
+pub mod Leaves
 pub mod Sources

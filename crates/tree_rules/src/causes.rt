@@ -1,13 +1,17 @@
 // Laws on replies: why each one comes. Each is a function without a body of its own, whose contract is the law; no program calls them.
-ghost use Rattle.std.specs.Prelude.{◌≡◌, ◌↔◌, ℕ, List, [], true, IsSome, Some, None};
+ghost use Rattle.std.specs.Prelude.{◌≡◌, ◌≢◌, ◌↔◌, ℕ, List, [], length, true, false, IsSome, Some, None};
 ghost use Rattle.tree_config.specs.Tree.{Tree};
 ghost use Rattle.tree_config.specs.Planned.{IsPlanned};
 ghost use Rattle.entropy_source.specs.Source.{source_after_all};
+ghost use Rattle.rbg_nodes.specs.Node.{How, NodeState};
 ghost use Rattle.tree_rules.specs.declared.call.Call.{Call};
+ghost use Rattle.tree_rules.specs.declared.call.Call.TheVariants.{Status, Uninstantiate};
 ghost use Rattle.tree_rules.specs.declared.reply.Reply.{Reply};
 ghost use Rattle.tree_rules.specs.Slots.{source_slot};
-ghost use Rattle.tree_rules.specs.History.{Entry, Opening, States, at_slot, opened, source_in, states_after};
-ghost use Rattle.tree_rules.specs.Chain.{Chain, SourceLink, need, whole_chain};
+ghost use Rattle.tree_rules.specs.History.{Entry, Opening, States, SlotState, NodeIs, node_in, has, after, at_slot, opened, source_in, states_after};
+ghost use Rattle.tree_rules.specs.Chain.{Chain, SourceLink, named, need, slots_of_source, task_of, whole_chain};
+ghost use Rattle.tree_rules.specs.Links.{Seeds};
+ghost use Rattle.tree_rules.specs.Leaves.{IsCleared, IsSeeded, LeavesSource};
 ghost use Rattle.tree_rules.specs.Replies.{chain_of, is_running, refusal};
 ghost use Rattle.tree_rules.specs.Fits.{Fits, Legal};
 ghost use Rattle.tree_rules.specs.Served.{Served};
@@ -44,6 +48,26 @@ pub fn replies_have_causes()
     draws_end_by_their_reads();
     starts_end_by_their_reads();
 }
+
+/// What each reply leaves. It says how many bytes it has, and a refusal has none. A refusal of the table leaves every slot as it is, and
+/// every other refusal all but its source; so does Status. Uninstantiate, Instantiate and Reseed that are Done leave the node that they
+/// name uninstantiated, or with a reseed counter of 1. The source is left as `LeavesSource` says.
+pub fn replies_leave()
+    ensures len { (p : Tree) (s : States) (e : Entry) → Fits p s e → e.reply.len ≡ length e.bytes }
+    ensures bytes { (p : Tree) (s : States) (e : Entry) → Fits p s e → e.reply.code ≢ 0 → e.bytes ≡ [] }
+    ensures refused { (p : Tree) (s : States) (e : Entry) (r : Reply) → Fits p s e →
+        refusal p e.call e.string (chain_of p s e.call e.string) ≡ Some r → (k : ℕ) (x : SlotState) → after p k x e ≡ x }
+    ensures others { (p : Tree) (s : States) (e : Entry) → Fits p s e → e.reply.code ≢ 0 → (k : ℕ) →
+        has (slots_of_source (chain_of p s e.call e.string).source) k ≡ false → (x : SlotState) → after p k x e ≡ x }
+    ensures source { (p : Tree) (s : States) (e : Entry) (t : SourceLink) → Fits p s e →
+        refusal p e.call e.string (chain_of p s e.call e.string) ≡ None → (chain_of p s e.call e.string).source ≡ Some t →
+        LeavesSource e.call t.state (source_after_all t.row t.state (at_slot t.slot e.acts)) e.reply }
+    ensures seeded { (p : Tree) (s : States) (e : Entry) (how : How) → Fits p s e → task_of e.call ≡ Seeds how → e.reply.code ≡ 0 →
+        (x : NodeState) → IsSeeded (node_in (after p (named e.call) (NodeIs x) e)) }
+    ensures cleared { (p : Tree) (s : States) (e : Entry) (n : ℕ) → Fits p s e → e.call ≡ Uninstantiate n → e.reply.code ≡ 0 →
+        (x : NodeState) → IsCleared (node_in (after p n (NodeIs x) e)) }
+    ensures status { (p : Tree) (s : States) (e : Entry) (n : ℕ) → Fits p s e → e.call ≡ Status n → (k : ℕ) (x : SlotState) → after p k x e ≡ x }
+{}
 
 /// No row of the table of refusals stands exactly where the call may be made in a caller's words, by its whole chain.
 pub fn calls_are_free_where_they_may_be_made()
