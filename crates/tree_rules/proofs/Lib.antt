@@ -16,5 +16,8 @@ pub mod Told
 pub mod Complete
 pub mod Freeing
 pub mod Leaving
+pub mod Coding
+pub mod Listing
+pub mod Committing
 mod Rows
 pub mod Depths

@@ -13,4 +13,8 @@ pub mod Served
 pub mod Causes
 pub mod Free
 pub mod Leaves
+pub mod Codes
+pub mod Table
+pub mod Commits
+pub mod Stands
 pub mod Sources

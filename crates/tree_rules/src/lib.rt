@@ -9,6 +9,7 @@
 mod call;
 mod causes;
 mod laws;
+mod lists;
 mod openings;
 mod reply;
 
@@ -23,6 +24,10 @@ pub use laws::{
     histories_are_legal, histories_have_parts, no_sample_is_used_twice, refusals_change_no_node,
     right_is_fitting, running_sources_had_no_alarm, sources_are_quiet_after_alarms,
     sources_draw_or_start, states_are_folds,
+};
+pub use lists::{
+    entries_may_be_committed, entries_touch_their_lists, histories_of_lists_are_histories,
+    lists_have_one_reading,
 };
 pub use openings::{histories_are_right_as_a_whole, histories_go_on};
 pub use reply::{Reply, ReplyRow};
