@@ -11,7 +11,7 @@ use Rattle.tree_rules.specs.Slots.{ancestors, no_node, node_plan}
 use Rattle.tree_config.specs.Graph.{after}
 use Rattle.std.proofs.lemmas.List.{length-map}
 
-same_parent : (nodes : List NodePlan) (n : ℕ) → parent_at (parents nodes) n ≡ parent_in (unwrap_or (slice_get nodes n) no_node).origin
+pub same_parent : (nodes : List NodePlan) (n : ℕ) → parent_at (parents nodes) n ≡ parent_in (unwrap_or (slice_get nodes n) no_node).origin
 same_parent [] n = refl
 same_parent (x ∷ xs) zero = refl
 same_parent (x ∷ xs) (suc n) = same_parent xs n

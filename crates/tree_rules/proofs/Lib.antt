@@ -19,5 +19,9 @@ pub mod Leaving
 pub mod Coding
 pub mod Listing
 pub mod Committing
+pub mod Pigeons
+pub mod Ranges
+pub mod Counting
+pub mod Growing
 mod Rows
 pub mod Depths

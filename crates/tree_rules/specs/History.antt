@@ -1,6 +1,6 @@
 -- The history of a tree: entries over an opening, and the state of each slot as a fold over the slot's own acts.
 -- This project's own.
-use Rattle.std.specs.Prelude.{ℕ, List, [], ◌∷◌, length, flat_map, slice_get, unwrap_or, ◌==◌, nat_lt, ◌||◌, false, if◌then◌else◌, Bool, Option, None}
+use Rattle.std.specs.Prelude.{◌≡◌, ℕ, List, [], ◌∷◌, length, flat_map, slice_get, unwrap_or, ◌==◌, nat_lt, ◌||◌, false, if◌then◌else◌, Bool, Option, None}
 use Rattle.tree_config.specs.Tree.{Tree}
 use Rattle.entropy_source.specs.Source.{SourceAct, SourceState, source_after, opened_source}
 use Rattle.rbg_nodes.specs.Node.{NodeAct, NodeState, node_after, fresh_node, kept_seed}
@@ -82,6 +82,11 @@ after p k s e = slot_after_all p k s (own k e.acts)
 abbrev pub has : List ℕ → ℕ → Bool
 has [] k = false
 has (x ∷ xs) k = (x == k) || has xs k
+
+-- no two slots of a list are the same
+abbrev pub Distinct : List ℕ → Type 0
+Distinct [] = Unit {0}
+Distinct (x ∷ xs) = (has xs x ≡ false) × Distinct xs
 
 -- the states before the opening calls: no node is instantiated and no source is started
 abbrev pub opened : Opening → States

@@ -16,5 +16,6 @@ pub mod Leaves
 pub mod Codes
 pub mod Table
 pub mod Commits
+pub mod Counts
 pub mod Stands
 pub mod Sources

@@ -69,3 +69,7 @@ with_source p (n ∷ m ∷ up) = n ∷ with_source p (m ∷ up)
 -- the path of a slot: a node, its ancestors and the source of the last one, or a source alone
 abbrev pub path : Tree → ℕ → List ℕ
 path p k = if nat_lt k (length p.nodes) then with_source p (lineage p k) else k ∷ []
+
+-- how many slots there are
+abbrev pub slot_count : Tree → ℕ
+slot_count p = length p.nodes + length p.sources

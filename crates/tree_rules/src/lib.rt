@@ -3,7 +3,10 @@
 //!
 //! - `call`: the calls of a tree;
 //! - `reply`: the answer to a call;
-//! - `laws`: what holds of every entry that is right, and of every history of such entries.
+//! - `laws`: what holds of every entry that is right, and of every history of such entries;
+//! - `causes`: which reply comes and why, and what it leaves;
+//! - `openings`: plans in range, and histories behind the opening calls;
+//! - `lists`: openings, entries and states as lists of numbers, for a table of turns.
 #![tactic(auto)]
 
 mod call;
@@ -29,5 +32,8 @@ pub use lists::{
     entries_may_be_committed, entries_touch_their_lists, histories_of_lists_are_histories,
     lists_have_one_reading,
 };
-pub use openings::{histories_are_right_as_a_whole, histories_go_on};
+pub use openings::{
+    chains_are_in_range, counts_are_small, histories_are_right_as_a_whole, histories_go_on,
+    paths_are_short,
+};
 pub use reply::{Reply, ReplyRow};

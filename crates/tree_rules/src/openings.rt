@@ -1,11 +1,45 @@
-// Laws on histories behind the opening calls. Each is a function without a body, whose contract is the law; no program calls them.
-ghost use Rattle.std.specs.Prelude.{◌↔◌, ◌++◌, ◌∷◌, ℕ, List, []};
-ghost use Rattle.tree_rules.specs.History.{Entry, Opening, opened};
+// Laws on plans in range, and on histories behind the opening calls. Each is a function without a body, whose contract is the law; no program calls them.
+ghost use Rattle.std.specs.Prelude.{◌≡◌, ◌<◌, ◌≤◌, ◌^◌, ◌↔◌, ◌++◌, ◌∷◌, ℕ, List, [], length, true};
+ghost use Rattle.tree_config.specs.Tree.{Tree, IsTree};
+ghost use Rattle.tree_config.specs.Planned.{IsPlanned};
+ghost use Rattle.rbg_nodes.specs.Node.{NodeState};
+ghost use Rattle.tree_rules.specs.declared.call.Call.{Call};
+ghost use Rattle.tree_rules.specs.Slots.{lineage, path, slot_count};
+ghost use Rattle.tree_rules.specs.Chain.{slots_of, target};
+ghost use Rattle.tree_rules.specs.Replies.{chain_of};
+ghost use Rattle.tree_rules.specs.Counts.{HasCounts, IsRaised};
+ghost use Rattle.tree_rules.specs.History.{Distinct, Entry, NodeIs, Opening, States, after, has, opened};
 ghost use Rattle.tree_rules.specs.Fits.{Fits, Legal};
 ghost use Rattle.tree_rules.specs.Right.{AreRight};
 ghost use Rattle.tree_rules.specs.Openings.{IsOpening, IsHistory, states_behind};
 ghost use Rattle.tree_rules.specs.Apart.{Apart};
 ghost use Rattle.tree_rules.specs.Quiet.{Quiet};
+
+/// In a plan in range whose nodes make a tree, the chain of a call lies on the path of the slot that the call names, and each of its slots
+/// is there.
+pub fn chains_are_in_range()
+    ensures { (limit least : ℕ) (p : Tree) (s : States) (c : Call) (string : List ℕ) (k : ℕ) → IsTree limit p.nodes → IsPlanned least p →
+        has (slots_of (chain_of p s c string)) k ≡ true →
+        (has (path p (target p c)) k ≡ true) × (k < slot_count p) × (target p c < slot_count p) }
+{}
+
+/// A path has at most eight nodes and one source, and there are at most 67 slots.
+pub fn paths_are_short()
+    ensures lineage { (limit : ℕ) (p : Tree) (n : ℕ) → IsTree limit p.nodes → n < length p.nodes → length (lineage p n) ≤ limit }
+    ensures nodes { (p : Tree) (t : ℕ) → IsTree 8 p.nodes → (ks : List ℕ) → Distinct ks →
+        ((k : ℕ) → has ks k ≡ true → (k < length p.nodes) × (has (path p t) k ≡ true)) → length ks ≤ 8 }
+    ensures source { (limit least : ℕ) (p : Tree) (t j k : ℕ) → IsTree limit p.nodes → IsPlanned least p → length p.nodes ≤ j →
+        length p.nodes ≤ k → has (path p t) j ≡ true → has (path p t) k ≡ true → j ≡ k }
+    ensures slots { (least : ℕ) (p : Tree) → IsPlanned least p → slot_count p ≤ 67 }
+{}
+
+/// An entry raises a node's seedings and generates by at most 256 each, so after at most 2^46 entries behind the opening calls they are at
+/// most 2^61.
+pub fn counts_are_small()
+    ensures entry { (least : ℕ) (p : Tree) (s : States) (e : Entry) → IsPlanned least p → Fits p s e → (k : ℕ) (x : NodeState) →
+        (y : NodeState) × (after p k (NodeIs x) e ≡ NodeIs y) × IsRaised 256 x y }
+    ensures history { (f : Opening) (o h : List Entry) → IsHistory f o h → length h ≤ 2 ^ 46 → (k : ℕ) → HasCounts (2 ^ 61) (states_behind f o h k) }
+{}
 
 /// A legal history, with the opening calls at its front, is legal and right as a whole, uses no sample twice and is quiet after alarms.
 pub fn histories_are_right_as_a_whole()
