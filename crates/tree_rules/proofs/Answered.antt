@@ -1,6 +1,6 @@
 -- How the reply of a call that no row of the table refuses comes of its source.
-use Rattle.std.proofs.Common.{◌≡◌, ◌≢◌, ◌∙◌, ◌++◌, ◌∷◌, ◌+◌, ◌-◌, ◌*◌, ◌<◌, ℕ, zero, suc, arith, List, [], Bool, true, false, length, map, refl, sym, ap, subst, eq-eqb, append-nil}
-use Rattle.std.specs.Prelude.{sum, nat_lt, ◌==◌, if◌then◌else◌, Option, Some, None, IsSome, Result, Ok, Err, MatchOption, MatchResult}
+use Rattle.std.proofs.Common.{◌≡◌, ◌≢◌, ◌∙◌, ◌++◌, ◌+◌, ◌-◌, ◌*◌, ◌<◌, ℕ, zero, suc, arith, List, [], Bool, true, false, length, map, refl, sym, ap, subst, append-nil}
+use Rattle.std.specs.Prelude.{sum, nat_lt, Option, Some, None, IsSome, Result, Ok, Err, MatchOption, MatchResult}
 use Rattle.health_tests.specs.declared.numbers.Tail.{Tail}
 use Rattle.health_tests.specs.declared.windows.Alarm.{Alarm}
 use Rattle.health_tests.specs.Windows.{alarm_in}
@@ -17,13 +17,13 @@ use Rattle.health_tests.specs.Numbers.{alarm_from}
 use Rattle.entropy_source.specs.declared.answers.SourceRefusal.TheVariants.{HealthFailed, InError, SourceFault, SourceSpent, WantOfEntropy}
 use Rattle.rbg_bytes.specs.Streams.{Rose}
 use Rattle.tree_config.specs.Tree.{Tree}
-use Rattle.tree_rules.specs.Causes.{IsOfTable, FaultsWhere, FailsAt, WantsWhere, HasCause, alarm_among, missing_after}
+use Rattle.tree_rules.specs.Causes.{IsOfTable, FaultsWhere, FailsAt, WantsWhere, IsCaused, alarm_of, missing_after}
 use Rattle.tree_rules.specs.Chain.{Chain, SourceLink, asks_pr, need, need_by, source_at, wants}
 use Rattle.tree_rules.specs.Fits.{AnswersBy, DrawsAndWorks, Fits, Serves, Starts, at_source, done, found_by, refused, source_reply, start_reply}
 use Rattle.tree_rules.specs.History.{Act, Entry, States, at_slot}
 use Rattle.tree_rules.specs.Links.{Link, first_link}
-use Rattle.tree_rules.specs.Replies.{chain_of, first_reply, is_running, is_start, mode_of, plain_rows, refusal, test_number}
-use Rattle.tree_rules.specs.Works.{worked, at_node}
+use Rattle.tree_rules.specs.Replies.{chain_of, first_reply, is_running, is_start, mode_of, plain_rows, refusal}
+use Rattle.tree_rules.specs.Works.{worked}
 use Rattle.rbg_nodes.specs.Node.{Cleared}
 use Rattle.tree_rules.specs.declared.call.Call.{Call}
 use Rattle.tree_rules.specs.declared.call.Call.TheVariants.{Generate, Instantiate, Reseed, Start, Status, Uninstantiate}
@@ -140,18 +140,18 @@ module _ (t : SourceLink) (e : Entry) where
       let no = subst (λ z. ends.WantsWhere z missing (Err (WantOfEntropy n))) l w in absurd (no n refl)
 
   cause_by : (c : Call) (acts : List SourceAct) (end : Result (List ℕ) SourceRefusal)
-      → Outcome t.state.taken (alarm_among c t (samples_of acts)) (missing_after c t acts) acts end
+      → Outcome t.state.taken (alarm_of c t (samples_of acts)) (missing_after c t acts) acts end
       → IsRead end × Counts t.state.faults (source_after_all t.row t.state acts).faults end → ReplyBy j e end
-      → HasCause c t acts (source_after_all t.row t.state acts) e.reply
+      → IsCaused c t acts (source_after_all t.row t.state acts) e.reply
   cause_by c acts end o (read, counts) r = record {
     fault = fault_by (has_failed acts) t.state.faults (source_after_all t.row t.state acts).faults end o.fault counts r;
-    health = health_by t.state.taken (alarm_among c t (samples_of acts)) end o.health r;
+    health = health_by t.state.taken (alarm_of c t (samples_of acts)) end o.health r;
     want = want_by (gave_none acts) (missing_after c t acts) end o.want r;
-    done = done_by t.state.taken (missing_after c t acts) (alarm_among c t (samples_of acts)) (has_failed acts) (gave_none acts) end read o.fault o.health o.want r;
+    done = done_by t.state.taken (missing_after c t acts) (alarm_of c t (samples_of acts)) (has_failed acts) (gave_none acts) end read o.fault o.health o.want r;
   }
 
 -- the source's acts among those of the entry
-acts_here : (t : SourceLink) (acts : List SourceAct) (w : List Act) → at_slot t.slot w ≡ [] → at_slot t.slot (map (at_source t) acts ++ w) ≡ acts
+pub acts_here : (t : SourceLink) (acts : List SourceAct) (w : List Act) → at_slot t.slot w ≡ [] → at_slot t.slot (map (at_source t) acts ++ w) ≡ acts
 acts_here t acts w none = at_slot-append t.slot (map (at_source t) acts) w ∙ rw (none, here_all t acts) (append-nil acts)
 
 -- a call that draws, and a start
@@ -214,11 +214,11 @@ module _ (draws_end : DrawsEnd) (starts_end : StartsEnd) where
     by None (suc n) kept d law = let no : IsSome {T = Tail} None = kept (omega arith) in cc
 
   abbrev Caused : Call → SourceLink → Entry → Type 0
-  Caused c t e = let acts = at_slot t.slot e.acts in HasCause c t acts (source_after_all t.row t.state acts) e.reply
+  Caused c t e = let acts = at_slot t.slot e.acts in IsCaused c t acts (source_after_all t.row t.state acts) e.reply
 
   moved : (c : Call) (t : SourceLink) (e : Entry) (acts : List SourceAct) → at_slot t.slot e.acts ≡ acts
-      → HasCause c t acts (source_after_all t.row t.state acts) e.reply → Caused c t e
-  moved c t e acts here h = subst (λ z. HasCause c t z (source_after_all t.row t.state z) e.reply) (sym here) h
+      → IsCaused c t acts (source_after_all t.row t.state acts) e.reply → Caused c t e
+  moved c t e acts here h = subst (λ z. IsCaused c t z (source_after_all t.row t.state z) e.reply) (sym here) h
 
   start_caused : (i : ℕ) (t : SourceLink) (e : Entry) → Starts (Some t) e → Caused (Start i) t e
   start_caused i t e w =
@@ -229,7 +229,7 @@ module _ (draws_end : DrawsEnd) (starts_end : StartsEnd) where
 
   -- a call whose alarms are told by what the tests kept, and what its block lacks
   abbrev Draws_ : Call → SourceLink → Type 0
-  Draws_ c t = (acts : List SourceAct) → (alarm_among c t (samples_of acts) ≡ found_in t.row.cutoffs t.state.tail [] (samples_of acts))
+  Draws_ c t = (acts : List SourceAct) → (alarm_of c t (samples_of acts) ≡ found_in t.row.cutoffs t.state.tail [] (samples_of acts))
       × (missing_after c t acts ≡ lacking_after (need_of_block t.row) (need_of_block t.row) acts)
 
   works_caused : (c : Call) (ls : List Link) (lens : List ℕ) (t : SourceLink) (e : Entry) → Draws_ c t
@@ -320,7 +320,7 @@ alone p s e f free none = no_source (chain_of p s e.call e.string) e e.call none
 pub caused : DrawsEnd → StartsEnd → (least : ℕ) (p : Tree) (s : States) (e : Entry) (t : SourceLink) → IsPlanned least p → Fits p s e
     → refusal p e.call e.string (chain_of p s e.call e.string) ≡ None → (chain_of p s e.call e.string).source ≡ Some t
     → (is_running t.state.mode ≡ true → IsSome t.state.tail)
-    → let acts = at_slot t.slot e.acts in HasCause e.call t acts (source_after_all t.row t.state acts) e.reply
+    → let acts = at_slot t.slot e.acts in IsCaused e.call t acts (source_after_all t.row t.state acts) e.reply
 caused draws_end starts_end least p s e t planned f free is tested =
     serves_caused draws_end starts_end (chain_of p s e.call e.string) e t e.call is
     (λ start more. tested (runs_where p s e.call e.string t (takes_samples least p planned) free is start more)) (served p s e f free)

@@ -5,7 +5,6 @@ use Rattle.rbg_bytes.specs.declared.kind.Kind.{Kind}
 use Rattle.rbg_bytes.specs.declared.kind.Kind.TheVariants as kinds
 use Rattle.rbg_bytes.specs.declared.cond.Cond.{Cond}
 use Rattle.rbg_bytes.specs.declared.cond.Cond.TheVariants as conds
-use Rattle.health_tests.specs.declared.windows.Test.{Test}
 use Rattle.health_tests.specs.declared.windows.Test.TheVariants.{Repetition, Proportion}
 use Rattle.tree_config.specs.declared.plan.NodeKind.{NodeKind}
 use Rattle.tree_config.specs.declared.plan.NodeKind.TheVariants.{Rbg1, Rbg2, Rbg3Xor, Rbg3Rs, Child}
@@ -14,8 +13,8 @@ use Rattle.tree_config.specs.declared.plan.Origin.TheVariants.{SeedFile, Source,
 use Rattle.tree_config.specs.declared.plan.NodePlan.{NodePlan}
 use Rattle.tree_config.specs.declared.plan.SourcePlan.{SourcePlan}
 use Rattle.tree_config.specs.Tree.{Tree}
-use Rattle.entropy_source.specs.Source.{SourceAct, Began, Read, Alarmed, Started, Block}
-use Rattle.rbg_nodes.specs.Node.{How, New, Renew, NodeAct, Seeded, Gave, Cleared}
+use Rattle.entropy_source.specs.Source.{Began, Read, Alarmed, Started, Block}
+use Rattle.rbg_nodes.specs.Node.{New, Renew, Seeded, Gave, Cleared}
 use Rattle.tree_rules.specs.declared.call.Call.{Call}
 use Rattle.tree_rules.specs.declared.call.Call.TheVariants.{Instantiate, Generate, Reseed, Uninstantiate, Start, Status}
 use Rattle.tree_rules.specs.declared.reply.Reply.{Reply}

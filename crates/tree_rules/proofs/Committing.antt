@@ -1,14 +1,14 @@
 -- What the test of a commit gives: its condition, and the condition of putting each value back.
-use Rattle.std.proofs.Common.{◌≡◌, ℕ, List, [], ◌∷◌, refl, sym, ap, ◌∙◌, subst, Bool, true, false}
+use Rattle.std.proofs.Common.{◌≡◌, ℕ, List, ◌∷◌, refl, sym, ap, ◌∙◌, Bool, true}
 use Rattle.std.specs.Prelude.{if◌then◌else◌}
 use Rattle.tree_rules.specs.declared.call.Call.{Call}
 use Rattle.tree_rules.specs.declared.reply.Reply.{Reply}
-use Rattle.tree_rules.specs.History.{Entry, Opening, States, SlotState, has, after, own, slot_after_all}
+use Rattle.tree_rules.specs.History.{Entry, Opening, States, has, own, slot_after_all}
 use Rattle.tree_rules.specs.Chain.{slots_of}
 use Rattle.tree_rules.specs.Replies.{chain_of}
 use Rattle.tree_rules.specs.Codes.{numbers, entry_list}
 use Rattle.tree_rules.specs.Table.{opening_list, touches, after_entry, Tells, FitsLists}
-use Rattle.tree_rules.specs.Served.{Served, entry_of}
+use Rattle.tree_rules.specs.Served.{entry_of}
 use Rattle.tree_rules.specs.Commits.{Bears}
 use Rattle.tree_rules.proofs.Listing.{touches_entry}
 

@@ -1,12 +1,12 @@
 -- A call that no row of the table refuses is Done, where its source tells its samples and enough of them are left without an alarm.
-use Rattle.std.proofs.Common.{◌≡◌, ◌∙◌, ◌++◌, ◌∷◌, ◌+◌, ◌-◌, ◌*◌, ◌<◌, ◌≤◌, ℕ, List, [], zero, suc, Bool, true, false, length, map, take, refl, sym, ap, subst, arith, append-nil, length-append}
-use Rattle.std.specs.Prelude.{◌==◌, ◌||◌, option_map, sum, Option, Some, None, IsSome, Result, Ok, Err, MatchOption, MatchResult}
+use Rattle.std.proofs.Common.{◌≡◌, ◌∙◌, ◌++◌, ◌∷◌, ◌+◌, ◌-◌, ◌<◌, ◌≤◌, ℕ, List, [], Bool, true, false, length, map, take, refl, sym, ap, subst, arith, append-nil}
+use Rattle.std.specs.Prelude.{◌==◌, ◌||◌, sum, Option, Some, None, IsSome, Result, Ok, Err, MatchResult}
 use Rattle.std.proofs.Math.Seq.{take-append-add}
 use Rattle.rbg_bytes.specs.Streams.{Rose}
 use Rattle.health_tests.proofs.Alarms.{alarm_tells}
 use Rattle.health_tests.proofs.Counting.{tail_begins}
 use Rattle.health_tests.specs.Cutoffs.{Limits}
-use Rattle.health_tests.specs.Numbers.{alarm_by, alarm_from, no_tail, tail_of, tail_step}
+use Rattle.health_tests.specs.Numbers.{alarm_by, alarm_from, no_tail, tail_step}
 use Rattle.health_tests.specs.Windows.{alarm_in, further, or_later}
 use Rattle.health_tests.specs.declared.numbers.Tail.{Tail}
 use Rattle.health_tests.specs.declared.windows.Alarm.{Alarm}
@@ -14,24 +14,24 @@ use Rattle.health_tests.specs.declared.windows.Test.{Test}
 use Rattle.entropy_source.specs.Counted.{samples_of, gave_none, has_failed}
 use Rattle.entropy_source.specs.Draws as draws
 use Rattle.entropy_source.specs.Draws.{Drawn, Gathers, found_in, portions}
-use Rattle.entropy_source.specs.Source.{Began, SourceAct, SourceState, Started, blocks_for, need_of, need_of_block, source_after, source_after_all}
+use Rattle.entropy_source.specs.Source.{Began, SourceAct, Started, blocks_for, need_of, source_after, source_after_all}
 use Rattle.entropy_source.specs.declared.answers.SourceRefusal.{SourceRefusal}
 use Rattle.tree_config.specs.Planned.{IsPlanned}
 use Rattle.tree_config.specs.Tree.{Tree}
-use Rattle.tree_rules.specs.Causes.{FaultsWhere, HasCause, HasEnough, IsDone, alarm_among, blocks_told, bytes_of, drawn_of}
+use Rattle.tree_rules.specs.Causes.{FaultsWhere, HasEnough, IsDone, alarm_of, blocks_told, IsDrawnDone, blocks_by, blocks_left, bytes_of, drawn_by}
 use Rattle.tree_rules.specs.Chain.{Chain, SourceLink, asks_pr, need, need_by, wants}
 use Rattle.tree_rules.specs.Fits.{AnswersBy, DrawsAndWorks, Fits, Serves, Starts, at_source, done, found_by, source_reply, start_reply}
 use Rattle.tree_rules.specs.History.{Entry, States, at_slot}
 use Rattle.tree_rules.specs.Links.{Link, first_link}
-use Rattle.tree_rules.specs.Replies.{chain_of, is_running, is_start, refusal}
+use Rattle.tree_rules.specs.Replies.{chain_of, is_running, is_start, refusal, seeds_or_gives}
 use Rattle.tree_rules.specs.Works.{worked}
 use Rattle.rbg_nodes.specs.Node.{Cleared}
 use Rattle.tree_rules.specs.declared.call.Call.{Call}
 use Rattle.tree_rules.specs.declared.call.Call.TheVariants.{Generate, Instantiate, Reseed, Start, Status, Uninstantiate}
 use Rattle.tree_rules.specs.declared.reply.Reply.{Reply}
-use Rattle.tree_rules.proofs.Answered.{Answered, DrawsEnd, StartsEnd, caused, served, start_answered, works_answered}
-use Rattle.tree_rules.proofs.Sources.{need_is, node_skip, not_done}
-use Rattle.tree_rules.proofs.Told.{Took, TookAll, gave_append, took, took_all}
+use Rattle.tree_rules.proofs.Answered.{acts_here, DrawsEnd, StartsEnd, caused, served, start_answered, works_answered}
+use Rattle.tree_rules.proofs.Sources.{need_is, none_worked, node_skip, not_done}
+use Rattle.tree_rules.proofs.Told.{Took, gave_append, took, took_all}
 use Rattle.entropy_source.proofs.Joins.{samples_append}
 
 -- no alarm among samples is none among the first of them
@@ -53,13 +53,13 @@ module _ (c : Limits) where
   fresh : (x : List ℕ) → alarm_from c no_tail x ≡ alarm_in c [] x
   fresh x = ap (λ t. alarm_from c t x) (sym (tail_begins c.window)) ∙ alarm_tells c [] x
 
-front_quiet : (c : Call) (t : SourceLink) (x y : List ℕ) → alarm_among c t (x ++ y) ≡ None → alarm_among c t x ≡ None
+front_quiet : (c : Call) (t : SourceLink) (x y : List ℕ) → alarm_of c t (x ++ y) ≡ None → alarm_of c t x ≡ None
 front_quiet c t x y h = by c h t.state.tail refl where
   drawn : (o : Option Tail) → found_in t.row.cutoffs o [] (x ++ y) ≡ None → found_in t.row.cutoffs o [] x ≡ None
   drawn None h = refl
   drawn (Some u) h = none_before t.row.cutoffs u x y h
 
-  by : (c : Call) → alarm_among c t (x ++ y) ≡ None → (o : Option Tail) → t.state.tail ≡ o → alarm_among c t x ≡ None
+  by : (c : Call) → alarm_of c t (x ++ y) ≡ None → (o : Option Tail) → t.state.tail ≡ o → alarm_of c t x ≡ None
   by (Start j) h o is = sym (fresh t.row.cutoffs x) ∙ none_before t.row.cutoffs no_tail x y (fresh t.row.cutoffs (x ++ y) ∙ h)
   by (Instantiate n a) h o is = drawn t.state.tail h
   by (Generate n a b d) h o is = drawn t.state.tail h
@@ -157,58 +157,91 @@ serves_front ch e t left (Instantiate n x) is told w = works_front ch e t left (
 serves_front ch e t left (Generate n x y z) is told w = works_front ch e t left (Generate n x y z) is told refl w
 serves_front ch e t left (Reseed n z) is told w = works_front ch e t left (Reseed n z) is told refl w
 
--- what a call that was Done gave
-works_done : (c : Call) (ls : List Link) (lens : List ℕ) (t : SourceLink) (e : Entry) (left : List ℕ) → t.state.told ≡ Some left
-    → DrawsAndWorks (found_by (Some t)) c ls lens (Some t) e → e.reply.code ≡ 0
-    → IsDone (worked (asks_pr c) (portions t.row lens (blocks_told t.row (sum (map (λ n. blocks_for t.row n) lens)) left)) e.string ls).bytes e
-works_done c ls lens t e left told (acts, end, drawn, answer) zero_is = by end drawn answer where
-  n : ℕ
-  n = sum (map (λ n. blocks_for t.row n) lens)
+-- a refusal of a source isn't Done
+never_done : (e : Entry) (j : ℕ) (why : SourceRefusal) → e.reply ≡ source_reply j why → e.reply.code ≡ 0 → ⊥
+never_done e j why is code =
+    let off = not_done j why in
+    let at : (source_reply j why).code ≡ 0 = sym (ap (λ (z : Reply). z.code) is) ∙ code in
+    let on : ((source_reply j why).code == 0) ≡ true = ap (λ z. z == 0) at in cc
 
+-- what a call that was Done gave
+works_done : (c : Call) (ls : List Link) (lens : List ℕ) (t : SourceLink) (e : Entry)
+    → DrawsAndWorks (found_by (Some t)) c ls lens (Some t) e → e.reply.code ≡ 0
+    → (all : List ℕ) × Drawn t.row (found_by (Some t)) t.state lens (at_slot t.slot e.acts) (Ok all)
+    × IsDone (worked (asks_pr c) (portions t.row lens all) e.string ls).bytes e
+works_done c ls lens t e (acts, end, drawn, answer) code = by end drawn answer where
   by : (end : Result (List ℕ) SourceRefusal) → Drawn t.row (found_by (Some t)) t.state lens acts end → MatchResult end
       (λ bytes. let w = worked (asks_pr c) (portions t.row lens bytes) e.string ls in
       AnswersBy e (map (at_source t) acts ++ w.acts) (done w.bytes) w.bytes)
       (λ why. AnswersBy e (map (at_source t) acts) (source_reply t.number why) [])
-      → IsDone (worked (asks_pr c) (portions t.row lens (blocks_told t.row n left)) e.string ls).bytes e
+      → (all : List ℕ) × Drawn t.row (found_by (Some t)) t.state lens (at_slot t.slot e.acts) (Ok all)
+      × IsDone (worked (asks_pr c) (portions t.row lens all) e.string ls).bytes e
   by (Ok all) drawn answer =
-      let is = (took_all t.row (found_by (Some t)) n t.state [] left [] acts (Ok all) told drawn).bytes all refl in
-      subst (λ z. IsDone (worked (asks_pr c) (portions t.row lens z) e.string ls).bytes e) is
-      (record { reply_is = answer.reply_is; bytes_are = answer.bytes_are })
-  by (Err why) drawn answer =
-      let no_zero = not_done t.number why in
-      let code : (source_reply t.number why).code ≡ 0 = sym (ap (λ (z : Reply). z.code) answer.reply_is) ∙ zero_is in
-      let yes : ((source_reply t.number why).code == 0) ≡ true = ap (λ z. z == 0) code in cc
+      let w = worked (asks_pr c) (portions t.row lens all) e.string ls in
+      let here : at_slot t.slot e.acts ≡ acts = ap (at_slot t.slot) answer.acts_are
+      ∙ acts_here t acts w.acts (none_worked t.slot (asks_pr c) (portions t.row lens all) e.string ls) in
+      (all, subst (λ z. Drawn t.row (found_by (Some t)) t.state lens z (Ok all)) (sym here) drawn, record { reply_is = answer.reply_is; bytes_are = answer.bytes_are })
+  by (Err why) drawn answer = absurd (never_done e t.number why answer.reply_is code)
 
-works_is_done : (ch : Chain) (e : Entry) (t : SourceLink) (left : List ℕ) (c : Call) → ch.source ≡ Some t → t.state.told ≡ Some left
-    → DrawsAndWorks (found_by ch.source) c ch.links (wants c ch) ch.source e → e.reply.code ≡ 0
-    → IsDone (worked (asks_pr c) (drawn_of c ch ch.source left) e.string ch.links).bytes e
-works_is_done ch e t left c is told w z =
-    subst (λ o. IsDone (worked (asks_pr c) (drawn_of c ch o left) e.string ch.links).bytes e) (sym is)
-    (works_done c ch.links (wants c ch) t e left told (subst (λ o. DrawsAndWorks (found_by o) c ch.links (wants c ch) o e) is w) z)
+works_drawn : (ch : Chain) (e : Entry) (t : SourceLink) (c : Call) → e.call ≡ c → ch.source ≡ Some t
+    → ((all : List ℕ) → (worked (asks_pr c) (drawn_by c ch ch.source all) e.string ch.links).bytes ≡ bytes_of c e.string ch all)
+    → DrawsAndWorks (found_by ch.source) c ch.links (wants c ch) ch.source e → e.reply.code ≡ 0 → IsDrawnDone t ch e
+works_drawn ch e t c same is words w code =
+    let (all, draw, done_is) = works_done c ch.links (wants c ch) t e (subst (λ o. DrawsAndWorks (found_by o) c ch.links (wants c ch) o e) is w) code in
+    record {
+      all = all;
+      draw = subst (λ z. Drawn t.row (found_by (Some t)) t.state (wants z ch) (at_slot t.slot e.acts) (Ok all)) (sym same) draw;
+      is = subst (λ z. IsDone (bytes_of z e.string ch all) e) (sym same)
+          (subst (λ z. IsDone z e) (words all) (subst (λ o. IsDone (worked (asks_pr c) (drawn_by c ch o all) e.string ch.links).bytes e) (sym is) done_is));
+    }
 
-works_alone : (ch : Chain) (e : Entry) (c : Call) → ch.source ≡ None → DrawsAndWorks (found_by ch.source) c ch.links (wants c ch) ch.source e
-    → IsDone (worked (asks_pr c) (drawn_of c ch ch.source []) e.string ch.links).bytes e
-works_alone ch e c is w =
-    let a = subst (λ o. DrawsAndWorks (found_by o) c ch.links (wants c ch) o e) is w in
-    subst (λ o. IsDone (worked (asks_pr c) (drawn_of c ch o []) e.string ch.links).bytes e) (sym is)
-    (record { reply_is = a.reply_is; bytes_are = a.bytes_are })
+serves_drawn : (ch : Chain) (e : Entry) (t : SourceLink) (c : Call) → e.call ≡ c → seeds_or_gives c ≡ true → ch.source ≡ Some t
+    → Serves (found_by ch.source) ch e c → e.reply.code ≡ 0 → IsDrawnDone t ch e
+serves_drawn ch e t (Start i) same what is w code = cc
+serves_drawn ch e t (Uninstantiate n) same what is w code = cc
+serves_drawn ch e t (Status n) same what is w code = cc
+serves_drawn ch e t (Instantiate n x) same what is w code = works_drawn ch e t (Instantiate n x) same is (λ all. refl) w code
+serves_drawn ch e t (Generate n x y v) same what is w code = works_drawn ch e t (Generate n x y v) same is (λ all. refl) w code
+serves_drawn ch e t (Reseed n x) same what is w code = works_drawn ch e t (Reseed n x) same is (λ all. refl) w code
 
-serves_done : (ch : Chain) (e : Entry) (t : SourceLink) (left : List ℕ) (c : Call) → ch.source ≡ Some t → t.state.told ≡ Some left
-    → Serves (found_by ch.source) ch e c → e.reply.code ≡ 0 → IsDone (bytes_of c e.string ch left) e
-serves_done ch e t left (Start i) is told w z = start_done (subst (λ o. Starts o e) is w) where
+pub drawn_done : (p : Tree) (s : States) (e : Entry) (t : SourceLink) → Fits p s e
+    → (let ch = chain_of p s e.call e.string in refusal p e.call e.string ch ≡ None → ch.source ≡ Some t
+    → seeds_or_gives e.call ≡ true → e.reply.code ≡ 0 → IsDrawnDone t ch e)
+drawn_done p s e t f free is what code = serves_drawn (chain_of p s e.call e.string) e t e.call refl what is (served p s e f free) code
+
+-- over the samples that the source tells
+told_done : (ch : Chain) (e : Entry) (t : SourceLink) (left : List ℕ) → ch.source ≡ Some t → t.state.told ≡ Some left → IsDrawnDone t ch e
+    → IsDone (bytes_of e.call e.string ch (blocks_left e.call ch left)) e
+told_done ch e t left is told d =
+    let n = sum (map (λ n. blocks_for t.row n) (wants e.call ch)) in
+    let all : d.all ≡ blocks_told t.row n left = (took_all t.row (found_by (Some t)) n t.state [] left [] (at_slot t.slot e.acts) (Ok d.all) told d.draw).bytes d.all refl in
+    subst (λ z. IsDone (bytes_of e.call e.string ch z) e) (all ∙ sym (ap (λ o. blocks_by e.call ch o left) is)) d.is
+
+works_told : (ch : Chain) (e : Entry) (t : SourceLink) (left : List ℕ) (c : Call) → e.call ≡ c → seeds_or_gives c ≡ true → ch.source ≡ Some t
+    → t.state.told ≡ Some left → Serves (found_by ch.source) ch e c → e.reply.code ≡ 0 → IsDone (bytes_of c e.string ch (blocks_left c ch left)) e
+works_told ch e t left c same what is told w code =
+    subst (λ z. IsDone (bytes_of z e.string ch (blocks_left z ch left)) e) same (told_done ch e t left is told (serves_drawn ch e t c same what is w code))
+
+serves_done : (ch : Chain) (e : Entry) (t : SourceLink) (left : List ℕ) (c : Call) → e.call ≡ c → ch.source ≡ Some t → t.state.told ≡ Some left
+    → Serves (found_by ch.source) ch e c → e.reply.code ≡ 0 → IsDone (bytes_of c e.string ch (blocks_left c ch left)) e
+serves_done ch e t left (Start i) same is told w code = start_done (subst (λ o. Starts o e) is w) where
   start_done : Starts (Some t) e → IsDone [] e
   start_done (acts, end, start, answer) = by end answer where
     by : (end : Result (List ℕ) SourceRefusal) → AnswersBy e (map (at_source t) acts) (start_reply t.number end) [] → IsDone [] e
     by (Ok bytes) answer = record { reply_is = answer.reply_is; bytes_are = answer.bytes_are }
-    by (Err why) answer =
-        let no_zero = not_done t.number why in
-        let code : (source_reply t.number why).code ≡ 0 = sym (ap (λ (z : Reply). z.code) answer.reply_is) ∙ z in
-        let yes : ((source_reply t.number why).code == 0) ≡ true = ap (λ z. z == 0) code in cc
-serves_done ch e t left (Uninstantiate n) is told w z = record { reply_is = w.reply_is; bytes_are = w.bytes_are }
-serves_done ch e t left (Status n) is told w z = record { reply_is = w.reply_is; bytes_are = w.bytes_are }
-serves_done ch e t left (Instantiate n x) is told w z = works_is_done ch e t left (Instantiate n x) is told w z
-serves_done ch e t left (Generate n x y v) is told w z = works_is_done ch e t left (Generate n x y v) is told w z
-serves_done ch e t left (Reseed n x) is told w z = works_is_done ch e t left (Reseed n x) is told w z
+    by (Err why) answer = absurd (never_done e t.number why answer.reply_is code)
+serves_done ch e t left (Uninstantiate n) same is told w code = record { reply_is = w.reply_is; bytes_are = w.bytes_are }
+serves_done ch e t left (Status n) same is told w code = record { reply_is = w.reply_is; bytes_are = w.bytes_are }
+serves_done ch e t left (Instantiate n x) same is told w code = works_told ch e t left (Instantiate n x) same refl is told w code
+serves_done ch e t left (Generate n x y v) same is told w code = works_told ch e t left (Generate n x y v) same refl is told w code
+serves_done ch e t left (Reseed n x) same is told w code = works_told ch e t left (Reseed n x) same refl is told w code
+
+works_alone : (ch : Chain) (e : Entry) (c : Call) → ch.source ≡ None → DrawsAndWorks (found_by ch.source) c ch.links (wants c ch) ch.source e
+    → IsDone (worked (asks_pr c) (drawn_by c ch ch.source []) e.string ch.links).bytes e
+works_alone ch e c is w =
+    let a = subst (λ o. DrawsAndWorks (found_by o) c ch.links (wants c ch) o e) is w in
+    subst (λ o. IsDone (worked (asks_pr c) (drawn_by c ch o []) e.string ch.links).bytes e) (sym is)
+    (record { reply_is = a.reply_is; bytes_are = a.bytes_are })
 
 -- a call that needs no source
 serves_alone : (ch : Chain) (e : Entry) (c : Call) → ch.source ≡ None → Serves (found_by ch.source) ch e c → IsDone (bytes_of c e.string ch []) e
@@ -227,7 +260,7 @@ pub done_told : DrawsEnd → StartsEnd → (least : ℕ) (p : Tree) (s : States)
     → Fits p s e → (let ch = chain_of p s e.call e.string in refusal p e.call e.string ch ≡ None → ch.source ≡ Some t
     → (is_running t.state.mode ≡ true → IsSome t.state.tail)
     → HasEnough e.call t (need e.call ch) left (source_after_all t.row t.state (at_slot t.slot e.acts))
-    → IsDone (bytes_of e.call e.string ch left) e)
+    → IsDone (bytes_of e.call e.string ch (blocks_left e.call ch left)) e)
 done_told draws_end starts_end least p s e t left planned f free is tested h =
     let ch = chain_of p s e.call e.string in
     let acts = at_slot t.slot e.acts in
@@ -235,6 +268,6 @@ done_told draws_end starts_end least p s e t left planned f free is tested h =
     let cause = caused draws_end starts_end least p s e t planned f free is tested in
     let front = serves_front ch e t left e.call is h.told w in
     let more = front_of (need e.call ch) left acts front in
-    let quiet = front_quiet e.call t (samples_of acts) more.0 (ap (alarm_among e.call t) (sym more.1) ∙ h.quiet) in
+    let quiet = front_quiet e.call t (samples_of acts) more.0 (ap (alarm_of e.call t) (sym more.1) ∙ h.quiet) in
     let failed = never_failed t.number t.state.faults (source_after_all t.row t.state acts).faults (has_failed acts) e.reply cause.fault h.kept in
-    serves_done ch e t left e.call is h.told w (cause.done failed quiet (gave_some (need e.call ch) left acts front h.enough))
+    serves_done ch e t left e.call refl is h.told w (cause.done failed quiet (gave_some (need e.call ch) left acts front h.enough))

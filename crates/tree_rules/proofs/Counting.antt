@@ -1,18 +1,15 @@
 -- By how much an entry raises a node's counts: its seedings and its generates, by 256 at most each.
-use Rattle.std.proofs.Common.{◌≡◌, ◌∙◌, ◌++◌, ◌∷◌, ◌+◌, ◌-◌, ◌*◌, ◌/◌, ◌<◌, ◌≤◌, ◌^◌, ℕ, List, [], zero, suc, Bool, true, false, length, map, refl, sym, ap, subst, arith}
+use Rattle.std.proofs.Common.{◌≡◌, ◌∙◌, ◌++◌, ◌∷◌, ◌+◌, ◌-◌, ◌*◌, ◌/◌, ◌<◌, ◌≤◌, ℕ, List, [], zero, suc, Bool, true, false, length, map, refl, sym, ap, subst, arith}
 use Rattle.std.proofs.lemmas.Grind.{div_ceil_times}
 use Rattle.std.specs.Int.{div_ceil}
 use Rattle.std.proofs.Math.Bool.{or-true}
-use Rattle.std.specs.Prelude.{◌&&◌, ◌||◌, ◌==◌, if◌then◌else◌, is_some, max, Option, Some, None, Result, Ok, Err, MatchOption, MatchResult, slice_get, unwrap_or}
+use Rattle.std.specs.Prelude.{◌&&◌, ◌||◌, ◌==◌, if◌then◌else◌, is_some, max, Option, Some, None, slice_get, unwrap_or}
 use Rattle.rbg_bytes.specs.Kinds.{strength}
 use Rattle.rbg_bytes.specs.declared.kind.Kind.{Kind}
 use Rattle.rbg_bytes.specs.declared.kind.Kind.TheVariants as kinds
-use Rattle.health_tests.specs.declared.windows.Alarm.{Alarm}
-use Rattle.entropy_source.specs.Draws.{portions}
 use Rattle.entropy_source.specs.Source.{SourceAct}
-use Rattle.entropy_source.specs.declared.answers.SourceRefusal.{SourceRefusal}
 use Rattle.rbg_nodes.specs.declared.node.NodeRow.{NodeRow}
-use Rattle.rbg_nodes.specs.Node.{Cleared, Gave, How, New, NodeAct, NodeState, Renew, Seeded, entropy_len, given_bytes, node_after, seed_len}
+use Rattle.rbg_nodes.specs.Node.{Cleared, Gave, How, New, NodeState, Renew, Seeded, entropy_len, given_bytes, node_after, seed_len}
 use Rattle.rbg_nodes.specs.Views.{xor_bytes}
 use Rattle.tree_config.specs.Planned as planned
 use Rattle.tree_config.specs.Planned.{IsPlanned}
@@ -22,18 +19,13 @@ use Rattle.tree_config.specs.declared.plan.NodeKind.TheVariants.{Child, Rbg1, Rb
 use Rattle.tree_config.specs.declared.plan.NodePlan.{NodePlan}
 use Rattle.tree_config.specs.declared.plan.Origin.{Origin}
 use Rattle.tree_config.specs.declared.plan.Origin.TheVariants.{Parent, SeedFile, Source}
-use Rattle.tree_rules.specs.Chain.{Chain, SourceLink, asks_pr, named, node_chain, task_of, wants, whole_chain}
-use Rattle.tree_rules.specs.Fits.{AnswersBy, DrawsAndWorks, Fits, Serves, Starts, at_source, done, found_by, source_reply, start_reply}
-use Rattle.tree_rules.specs.History.{Act, AtNode, AtSource, Entry, NodeIs, SlotAct, SlotState, SourceIs, States, after, node_in, own, slot_after, slot_after_all}
-use Rattle.tree_rules.specs.Links.{Gives, Link, Rests, Seeds, Task, asks_parent, chunk_lens, chunks, first_link, is_alive, is_rs, is_xor, link, links, must_seed, seeding_by, seeding_len}
-use Rattle.tree_rules.specs.Replies.{chain_of, count_limit, refusal}
+use Rattle.tree_rules.specs.Chain.{SourceLink}
+use Rattle.tree_rules.specs.Fits.{at_source}
+use Rattle.tree_rules.specs.History.{Act, AtNode, AtSource, SlotAct, States, own}
+use Rattle.tree_rules.specs.Links.{Gives, Link, Rests, Seeds, Task, asks_parent, chunk_lens, chunks, is_alive, is_rs, is_xor, link, links, must_seed, seeding_by, seeding_len}
+use Rattle.tree_rules.specs.Replies.{count_limit}
 use Rattle.tree_rules.specs.Slots.{ancestors, lineage, no_node, node_plan, node_row}
-use Rattle.tree_rules.specs.Works.{Work, at_node, chunked, gave, given_work, last_drawn, material, mixed, task_work, worked}
-use Rattle.tree_rules.specs.declared.call.Call.{Call}
-use Rattle.tree_rules.specs.declared.call.Call.TheVariants.{Generate, Instantiate, Reseed, Start, Status, Uninstantiate}
-use Rattle.tree_rules.specs.declared.reply.Reply.{Reply}
-use Rattle.tree_rules.proofs.Answered.{served}
-use Rattle.tree_rules.proofs.Freeing.{chain_is_whole, is_free}
+use Rattle.tree_rules.specs.Works.{Work, chunked, gave, given_work, last_drawn, material, mixed, task_work, worked}
 
 -- What is counted of acts: the seedings, or the generates. A source's acts count nothing, and so does an uninstantiation.
 pub record IsWeight (w : SlotAct → ℕ) : Type 0 where

@@ -1,5 +1,5 @@
 -- What reads, a draw and a start leave of a source, by how they ended.
-use Rattle.std.proofs.Common.{◌≡◌, ◌∙◌, ◌++◌, ◌∷◌, ◌+◌, ◌-◌, ℕ, List, [], zero, suc, length, refl, sym, ap, subst}
+use Rattle.std.proofs.Common.{◌≡◌, ◌∙◌, ◌++◌, ◌∷◌, ◌+◌, ◌-◌, ℕ, List, [], zero, suc, length, refl, sym, subst}
 use Rattle.std.specs.Prelude.{Option, Some, None, Result, Ok, Err, MatchOption, MatchResult, IfSome, drop, option_map}
 use Rattle.rbg_bytes.specs.Streams.{Rose}
 use Rattle.conditioner.specs.Conditioned.{conditioned}

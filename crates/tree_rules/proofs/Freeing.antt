@@ -1,12 +1,12 @@
 -- No row of the table stands exactly where the call may be made in a caller's words.
-use Rattle.std.proofs.Common.{◌≡◌, ◌∙◌, ◌++◌, ◌∷◌, ◌<◌, ◌≤◌, ℕ, List, [], Bool, true, false, length, refl, sym, ap, subst, arith}
+use Rattle.std.proofs.Common.{◌≡◌, ◌∙◌, ◌++◌, ◌∷◌, ◌<◌, ◌≤◌, ℕ, List, [], Bool, true, false, refl, sym, ap, subst, arith}
 use Rattle.std.proofs.lemmas.Bool.Decides.{nat_tests}
 use Rattle.std.specs.Prelude.{◌&&◌, ◌||◌, if◌then◌else◌, nat_lt, nat_le, not, Option, Some, None, IsSome, is_none}
 use Rattle.tree_config.specs.Tree.{Tree}
 use Rattle.tree_rules.specs.declared.call.Call.{Call}
 use Rattle.tree_rules.specs.declared.reply.Reply.{Reply}
 use Rattle.tree_rules.specs.declared.reply.ReplyRow.{ReplyRow}
-use Rattle.tree_rules.specs.Chain.{Chain, need, named, whole_chain}
+use Rattle.tree_rules.specs.Chain.{Chain, need, whole_chain}
 use Rattle.tree_rules.specs.Free.{IsFree}
 use Rattle.tree_rules.specs.History.{States}
 use Rattle.tree_rules.specs.Links.{first_link}

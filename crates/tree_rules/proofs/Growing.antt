@@ -1,12 +1,12 @@
 -- What an entry and a history raise the counts of a node by.
-use Rattle.std.proofs.Common.{◌≡◌, ◌∙◌, ◌++◌, ◌∷◌, ◌+◌, ◌*◌, ◌≤◌, ◌^◌, ℕ, List, [], zero, suc, Bool, true, false, length, map, refl, sym, ap, subst, arith, length-append, mul-suc}
+use Rattle.std.proofs.Common.{◌≡◌, ◌++◌, ◌∷◌, ◌+◌, ◌*◌, ◌≤◌, ◌^◌, ℕ, List, [], suc, Bool, true, false, length, map, refl, sym, ap, subst, arith, length-append, mul-suc}
 use Rattle.std.proofs.lemmas.List.{length-map}
 use Rattle.std.proofs.lemmas.List.FromFn.{length-range_with_len}
 use Rattle.std.specs.List.{range_with_len}
 use Rattle.std.specs.Prelude.{◌==◌, if◌then◌else◌, filter, flat_map, nat_lt, slice_get, unwrap_or, Option, Some, None, Result, Ok, Err, MatchOption, MatchResult}
 use Rattle.health_tests.specs.declared.windows.Alarm.{Alarm}
 use Rattle.entropy_source.specs.Draws.{portions}
-use Rattle.entropy_source.specs.Source.{SourceAct, SourceState, opened_source, source_after}
+use Rattle.entropy_source.specs.Source.{SourceState, opened_source, source_after}
 use Rattle.entropy_source.specs.declared.answers.SourceRefusal.{SourceRefusal}
 use Rattle.rbg_nodes.specs.Node.{Cleared, Gave, NodeState, New, Renew, Seeded, fresh_node, kept_seed, node_after}
 use Rattle.tree_config.specs.Planned.{IsPlanned}
@@ -15,16 +15,15 @@ use Rattle.tree_rules.specs.Chain.{Chain, SourceLink, asks_pr, named, node_chain
 use Rattle.tree_rules.specs.Counts.{AreCounts, HasCounts, IsRaised}
 use Rattle.tree_rules.specs.Fits.{AnswersBy, DrawsAndWorks, Fits, Legal, Serves, Starts, at_source, done, found_by, source_reply}
 use Rattle.tree_rules.specs.Free.{IsFree}
-use Rattle.tree_rules.specs.History.{Act, AtNode, AtSource, Entry, NodeIs, Opening, SlotAct, SlotState, SourceIs, States, after, node_in, opened, own, slot_after, slot_after_all, states_after}
-use Rattle.tree_rules.specs.Links.{Gives, Link, Seeds, Task}
-use Rattle.tree_rules.specs.Openings.{IsHistory, IsOpening, by_depth, depth, opening_calls, states_behind}
+use Rattle.tree_rules.specs.History.{Act, AtNode, AtSource, Entry, NodeIs, Opening, SlotAct, SlotState, SourceIs, States, after, opened, own, slot_after_all, states_after}
+use Rattle.tree_rules.specs.Links.{Gives, Link, Seeds}
+use Rattle.tree_rules.specs.Openings.{IsHistory, by_depth, depth, opening_calls, states_behind}
 use Rattle.tree_rules.specs.Replies.{chain_of, refusal}
 use Rattle.tree_rules.specs.Slots.{node_row, source_number, source_row}
 use Rattle.tree_rules.specs.Works.{worked}
 use Rattle.tree_rules.specs.declared.call.Call.{Call}
 use Rattle.tree_rules.specs.declared.call.Call.TheVariants.{Generate, Instantiate, Reseed, Start, Status, Uninstantiate}
 use Rattle.tree_rules.specs.declared.reply.Reply.{Reply}
-use Rattle.tree_rules.proofs.Answered.{served}
 use Rattle.tree_rules.proofs.Counting.{IsBrief, IsWeight, gives_of, gives_weigh, of_own, own_few, seeds_of, seeds_weigh, sources_none, top_few, total, total-append}
 use Rattle.tree_rules.proofs.Freeing.{chain_is_whole, is_free}
 

@@ -1,6 +1,6 @@
 -- What each reply leaves.
 use Rattle.std.proofs.Common.{◌≡◌, ◌≢◌, ◌∙◌, ◌++◌, ◌∷◌, ℕ, List, [], Bool, true, false, length, map, refl, sym, ap, subst, eq-eqb, append_assoc}
-use Rattle.std.specs.Prelude.{◌==◌, ◌||◌, if◌then◌else◌, sum, Option, Some, None, IfSome, Result, Ok, Err, MatchOption, MatchResult}
+use Rattle.std.specs.Prelude.{◌==◌, if◌then◌else◌, sum, Option, Some, None, IfSome, Result, Ok, Err, MatchOption, MatchResult}
 use Rattle.entropy_source.specs.Draws.{portions}
 use Rattle.entropy_source.specs.Source.{Began, SourceAct, SourceState, blocks_for, source_after, source_after_all}
 use Rattle.entropy_source.specs.declared.answers.Cause.TheVariants as causes
@@ -11,12 +11,12 @@ use Rattle.rbg_nodes.specs.Node.{Cleared, How, New, Renew, NodeState, Seeded, no
 use Rattle.tree_config.specs.Tree.{Tree, parent_in}
 use Rattle.tree_rules.specs.Chain.{Chain, SourceLink, asks_pr, named, node_chain, slots_of_source, task_of, wants, whole_chain}
 use Rattle.tree_rules.specs.Fits.{AnswersBy, DrawsAndWorks, Fits, Serves, Starts, at_source, done, found_by, source_reply, start_reply}
-use Rattle.tree_rules.specs.History.{Act, AtNode, AtSource, Entry, NodeIs, SlotAct, SlotState, SourceIs, States, after, at_slot, has, node_in, own, slot_after, slot_after_all}
+use Rattle.tree_rules.specs.History.{Act, AtNode, AtSource, Entry, NodeIs, SlotAct, SlotState, States, after, at_slot, has, node_in, own, slot_after, slot_after_all}
 use Rattle.tree_rules.specs.Leaves.{IsCleared, IsSeeded, LeavesSource}
 use Rattle.tree_rules.specs.Links.{Gives, Link, Seeds, asks_parent, first_link, link, links, seeding_len}
 use Rattle.tree_rules.specs.Replies.{chain_of, error_index, error_test, is_start, refusal}
 use Rattle.tree_rules.specs.Slots.{ancestors, node_plan, node_row}
-use Rattle.tree_rules.specs.Works.{at_node, material, seeded_work, worked}
+use Rattle.tree_rules.specs.Works.{at_node, material, worked}
 use Rattle.tree_rules.specs.declared.call.Call.{Call}
 use Rattle.tree_rules.specs.declared.call.Call.TheVariants.{Generate, Instantiate, Reseed, Start, Status, Uninstantiate}
 use Rattle.tree_rules.specs.declared.reply.Reply.{Reply}

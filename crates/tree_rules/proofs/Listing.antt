@@ -1,11 +1,11 @@
 -- The two laws that a table of turns asks for, and what a history of lists is a history of.
-use Rattle.std.proofs.Common.{◌≡◌, ℕ, zero, suc, List, [], ◌∷◌, ◌++◌, map, refl, sym, ap, ◌∙◌, subst, Bool, true, false}
+use Rattle.std.proofs.Common.{◌≡◌, ℕ, List, [], ◌∷◌, refl, sym, ap, ◌∙◌, subst, Bool, true, false}
 use Rattle.std.specs.Prelude.{◌==◌, ◌||◌, if◌then◌else◌}
 use Rattle.tree_rules.specs.History.{Entry, Opening, States, SlotState, has, after, opened, states_after}
 use Rattle.tree_rules.specs.Codes as codes
 use Rattle.tree_rules.specs.Codes.{numbers, list_of, entry_list}
-use Rattle.tree_rules.specs.Fits.{Fits, Legal}
-use Rattle.tree_rules.specs.Table.{opening_list, has_at_front, touches, start, after_entry, slot_list, slot_state, Tells, FitsLists, LegalLists, Reads, lists_after}
+use Rattle.tree_rules.specs.Fits.{Fits}
+use Rattle.tree_rules.specs.Table.{opening_list, has_at_front, touches, after_entry, slot_list, slot_state, Tells, FitsLists, LegalLists, Reads, lists_after}
 use Rattle.tree_rules.proofs.Coding.{numbers_back, entry_back, opening_back, list_back}
 use Rattle.tree_rules.proofs.Near.{near}
 use Rattle.tree_rules.proofs.Leaves.{leaves}

@@ -1,11 +1,11 @@
 -- Paths of a plan in range: their slots are there, they have at most eight nodes, and one source.
-use Rattle.std.proofs.Common.{◌≡◌, ◌≢◌, ◌∙◌, ◌++◌, ◌∷◌, ◌+◌, ◌<◌, ◌≤◌, ℕ, List, [], zero, suc, Bool, true, false, length, refl, sym, ap, subst, arith, eqb-true, inl, inr}
+use Rattle.std.proofs.Common.{◌≡◌, ◌∙◌, ◌∷◌, ◌+◌, ◌<◌, ◌≤◌, ℕ, List, [], zero, suc, Bool, true, false, length, refl, sym, subst, arith, eqb-true, inl, inr}
 use Rattle.std.proofs.lemmas.Bool.{cases_lt}
 use Rattle.std.proofs.lemmas.Bool.Decides.{nat_tests}
 use Rattle.std.proofs.lemmas.List.{length-map}
 use Rattle.std.specs.Prelude.{◌==◌, ◌||◌, ◌⊎◌, if◌then◌else◌, nat_le, nat_lt, option_and_then, Option, Some, None, slice_get, unwrap_or}
 use Rattle.tree_config.proofs.Paths.{HasParents, from_never, way_ends}
-use Rattle.tree_config.specs.Graph.{HasDepth, IsNever, IsOnCycle, after, parent_at}
+use Rattle.tree_config.specs.Graph.{HasDepth, after, parent_at}
 use Rattle.tree_config.specs.Planned as planned
 use Rattle.tree_config.specs.Planned.{IsPlanned}
 use Rattle.tree_config.specs.Tree.{IsTree, Tree, parent_in, parents}

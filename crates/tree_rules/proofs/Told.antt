@@ -1,7 +1,7 @@
 -- What a source that tells its samples gives: the next ones, and blocks of them one behind the other.
-use Rattle.std.proofs.Common.{◌≡◌, ◌∙◌, ◌++◌, ◌∷◌, ◌+◌, ◌-◌, ◌*◌, ◌<◌, ◌≤◌, ℕ, List, [], zero, suc, Bool, true, false, length, take, drop, refl, sym, ap, subst, arith, append-nil, append_assoc, length-append, take-append-drop, suc-mul}
-use Rattle.std.specs.Prelude.{option_map, ◌||◌, Option, Some, None, Result, Ok, Err, MatchOption, MatchResult, IfSome, min}
-use Rattle.std.proofs.Math.Seq.{take-append_seam, drop-append_seam, take-append-add}
+use Rattle.std.proofs.Common.{◌≡◌, ◌∙◌, ◌++◌, ◌∷◌, ◌+◌, ◌-◌, ◌*◌, ◌<◌, ◌≤◌, ℕ, List, [], zero, suc, true, false, length, take, drop, refl, sym, ap, subst, arith, append-nil, append_assoc, length-append, take-append-drop, suc-mul}
+use Rattle.std.specs.Prelude.{option_map, ◌||◌, Option, Some, None, Result, Ok, Err, MatchOption, MatchResult, IfSome}
+use Rattle.std.proofs.Math.Seq.{take-append_seam, drop-append_seam}
 use Rattle.conditioner.specs.Conditioned.{conditioned}
 use Rattle.health_tests.specs.declared.windows.Alarm.{Alarm}
 use Rattle.entropy_source.proofs.Joins.{gathered, samples_append}

@@ -1,6 +1,6 @@
 -- Which reply comes of a call, and why: by the table of refusals, or by what the call's source read for it.
 -- This project's own; SP 800-90B 4.3 for the alarm.
-use Rattle.std.specs.Prelude.{◌≡◌, ◌≢◌, ◌<◌, ◌≤◌, ℕ, zero, suc, ◌+◌, ◌-◌, List, [], ◌++◌, length, take, drop, map, sum, Bool, true, false, Option, Some, None}
+use Rattle.std.specs.Prelude.{◌≡◌, ◌≢◌, ◌<◌, ◌≤◌, ℕ, zero, suc, ◌+◌, ◌-◌, List, [], ◌++◌, length, take, drop, map, sum, Bool, true, false, Option, Some, None, Ok}
 use Rattle.rbg_bytes.specs.Streams.{Rose}
 use Rattle.health_tests.specs.declared.windows.Alarm.{Alarm}
 use Rattle.health_tests.specs.Windows.{alarm_in}
@@ -11,8 +11,8 @@ use Rattle.entropy_source.specs.Counted.{samples_of, lacking_after, gave_none, h
 use Rattle.tree_rules.specs.declared.call.Call.{Call}
 use Rattle.tree_rules.specs.declared.call.Call.TheVariants.{Start, Status, Uninstantiate}
 use Rattle.tree_rules.specs.declared.reply.Reply.{Reply}
-use Rattle.entropy_source.specs.Draws.{portions}
-use Rattle.tree_rules.specs.History.{Entry}
+use Rattle.entropy_source.specs.Draws.{Drawn, portions}
+use Rattle.tree_rules.specs.History.{Entry, at_slot}
 use Rattle.tree_rules.specs.Links.{first_link}
 use Rattle.tree_rules.specs.Chain.{Chain, SourceLink, asks_pr, wants}
 use Rattle.tree_rules.specs.Works.{worked}
@@ -40,9 +40,9 @@ WantsWhere j true missing r = r ≡ refused 14 missing j
 WantsWhere j false missing r = r.code ≢ 14
 
 -- the first alarm among samples of a call: behind none for a Start, else behind what the tests kept before the call
-abbrev pub alarm_among : Call → SourceLink → List ℕ → Option Alarm
-alarm_among (Start j) t samples = alarm_in t.row.cutoffs [] samples
-alarm_among c t samples = found_by (Some t) [] samples
+abbrev pub alarm_of : Call → SourceLink → List ℕ → Option Alarm
+alarm_of (Start j) t samples = alarm_in t.row.cutoffs [] samples
+alarm_of c t samples = found_by (Some t) [] samples
 
 -- what the start-up lacked after acts, or the block that was begun last
 abbrev pub missing_after : Call → SourceLink → List SourceAct → ℕ
@@ -50,11 +50,11 @@ missing_after (Start j) t acts = t.row.startup - length (samples_of acts)
 missing_after c t acts = lacking_after (need_of_block t.row) (need_of_block t.row) acts
 
 -- the reply by the acts of the call's source, which leave it in the state `now`: each refusal has its cause, and without one it is Done
-pub record HasCause (c : Call) (t : SourceLink) (acts : List SourceAct) (now : SourceState) (r : Reply) : Type 0 where
+pub record IsCaused (c : Call) (t : SourceLink) (acts : List SourceAct) (now : SourceState) (r : Reply) : Type 0 where
   pub fault : FaultsWhere t.number t.state.faults now.faults (has_failed acts) r
-  pub health : FailsAt t.state.taken (alarm_among c t (samples_of acts)) r
+  pub health : FailsAt t.state.taken (alarm_of c t (samples_of acts)) r
   pub want : WantsWhere t.number (gave_none acts) (missing_after c t acts) r
-  pub done : has_failed acts ≡ false → alarm_among c t (samples_of acts) ≡ None → gave_none acts ≡ false → r.code ≡ 0
+  pub done : has_failed acts ≡ false → alarm_of c t (samples_of acts) ≡ None → gave_none acts ≡ false → r.code ≡ 0
 
 -- so many conditioned blocks of samples, one behind the other
 abbrev pub blocks_told : SourceRow → ℕ → List ℕ → List ℕ
@@ -66,21 +66,35 @@ blocks_told row (suc n) left = conditioned row.cond (take (need_of_block row) le
 pub record HasEnough (c : Call) (t : SourceLink) (samples : ℕ) (left : List ℕ) (now : SourceState) : Type 0 where
   pub told : t.state.told ≡ Some left
   pub enough : samples ≤ length left
-  pub quiet : alarm_among c t (take samples left) ≡ None
+  pub quiet : alarm_of c t (take samples left) ≡ None
   pub kept : ¬ Rose t.state.faults now.faults
 
--- the strings that a call draws of the samples that are left, and the bytes of its reply when it is Done
-abbrev pub drawn_of : Call → Chain → Option SourceLink → List ℕ → List (List ℕ)
-drawn_of c ch None left = []
-drawn_of c ch (Some t) left = portions t.row (wants c ch) (blocks_told t.row (sum (map (λ n. blocks_for t.row n) (wants c ch))) left)
+-- the bytes of all blocks that a source which tells its samples makes for a call
+abbrev pub blocks_by : Call → Chain → Option SourceLink → List ℕ → List ℕ
+blocks_by c ch None left = []
+blocks_by c ch (Some t) left = blocks_told t.row (sum (map (λ n. blocks_for t.row n) (wants c ch))) left
+
+abbrev pub blocks_left : Call → Chain → List ℕ → List ℕ
+blocks_left c ch left = blocks_by c ch ch.source left
+
+-- the strings that a call draws of the bytes of all blocks, and the bytes of its reply when it is Done
+abbrev pub drawn_by : Call → Chain → Option SourceLink → List ℕ → List (List ℕ)
+drawn_by c ch None all = []
+drawn_by c ch (Some t) all = portions t.row (wants c ch) all
 
 abbrev pub bytes_of : Call → List ℕ → Chain → List ℕ → List ℕ
-bytes_of (Uninstantiate n) string ch left = []
-bytes_of (Start j) string ch left = []
-bytes_of (Status n) string ch left = status_bytes (first_link ch.links).state
-bytes_of c string ch left = (worked (asks_pr c) (drawn_of c ch ch.source left) string ch.links).bytes
+bytes_of (Uninstantiate n) string ch all = []
+bytes_of (Start j) string ch all = []
+bytes_of (Status n) string ch all = status_bytes (first_link ch.links).state
+bytes_of c string ch all = (worked (asks_pr c) (drawn_by c ch ch.source all) string ch.links).bytes
 
 -- Done, with exactly these bytes
 pub record IsDone (bytes : List ℕ) (e : Entry) : Type 0 where
   pub reply_is : e.reply ≡ done bytes
   pub bytes_are : e.bytes ≡ bytes
+
+-- Done, over the blocks that the source made for the call
+pub record IsDrawnDone (t : SourceLink) (ch : Chain) (e : Entry) : Type 0 where
+  pub all : List ℕ
+  pub draw : Drawn t.row (found_by (Some t)) t.state (wants e.call ch) (at_slot t.slot e.acts) (Ok all)
+  pub is : IsDone (bytes_of e.call e.string ch all) e

@@ -1,6 +1,6 @@
 -- What a reply leaves of the call's source and of the node that it names.
 -- This project's own.
-use Rattle.std.specs.Prelude.{◌≡◌, ◌≢◌, ℕ, [], true, false, None, IfSome}
+use Rattle.std.specs.Prelude.{◌≡◌, ◌≢◌, [], true, false, None, IfSome}
 use Rattle.entropy_source.specs.declared.answers.SourceMode.TheVariants as modes
 use Rattle.entropy_source.specs.Source.{SourceState}
 use Rattle.rbg_nodes.specs.Node.{NodeState, no_working}

@@ -12,10 +12,10 @@ ghost use Rattle.tree_rules.specs.History.{Entry, Opening, States, SlotState, No
 ghost use Rattle.tree_rules.specs.Chain.{Chain, SourceLink, named, need, slots_of_source, task_of, whole_chain};
 ghost use Rattle.tree_rules.specs.Links.{Seeds};
 ghost use Rattle.tree_rules.specs.Leaves.{IsCleared, IsSeeded, LeavesSource};
-ghost use Rattle.tree_rules.specs.Replies.{chain_of, is_running, refusal};
+ghost use Rattle.tree_rules.specs.Replies.{chain_of, is_running, refusal, seeds_or_gives};
 ghost use Rattle.tree_rules.specs.Fits.{Fits, Legal};
 ghost use Rattle.tree_rules.specs.Served.{Served};
-ghost use Rattle.tree_rules.specs.Causes.{IsOfTable, HasCause, HasEnough, IsDone, bytes_of};
+ghost use Rattle.tree_rules.specs.Causes.{IsOfTable, IsCaused, HasEnough, IsDone, IsDrawnDone, blocks_left, bytes_of};
 ghost use Rattle.tree_rules.specs.Free.{IsFree};
 
 use entropy_source::{draws_end_by_their_reads, starts_end_by_their_reads};
@@ -43,7 +43,7 @@ pub fn replies_have_causes()
     ensures source { (least : ℕ) (p : Tree) (s : States) (e : Entry) (t : SourceLink) → IsPlanned least p → Fits p s e →
         refusal p e.call e.string (chain_of p s e.call e.string) ≡ None → (chain_of p s e.call e.string).source ≡ Some t →
         (is_running t.state.mode ≡ true → IsSome t.state.tail) →
-        HasCause e.call t (at_slot t.slot e.acts) (source_after_all t.row t.state (at_slot t.slot e.acts)) e.reply }
+        IsCaused e.call t (at_slot t.slot e.acts) (source_after_all t.row t.state (at_slot t.slot e.acts)) e.reply }
 {
     draws_end_by_their_reads();
     starts_end_by_their_reads();
@@ -86,11 +86,18 @@ pub fn calls_that_may_be_made_are_done()
         refusal p e.call e.string (chain_of p s e.call e.string) ≡ None → (chain_of p s e.call e.string).source ≡ Some t →
         (is_running t.state.mode ≡ true → IsSome t.state.tail) →
         HasEnough e.call t (need e.call (chain_of p s e.call e.string)) left (source_after_all t.row t.state (at_slot t.slot e.acts)) →
-        IsDone (bytes_of e.call e.string (chain_of p s e.call e.string) left) e }
+        IsDone (bytes_of e.call e.string (chain_of p s e.call e.string) (blocks_left e.call (chain_of p s e.call e.string) left)) e }
 {
     draws_end_by_their_reads();
     starts_end_by_their_reads();
 }
+
+/// A call that draws on its source and is Done has exactly the bytes that come of the blocks drawn.
+pub fn calls_are_done_over_their_blocks()
+    ensures { (p : Tree) (s : States) (e : Entry) (t : SourceLink) → Fits p s e → refusal p e.call e.string (chain_of p s e.call e.string) ≡ None →
+        (chain_of p s e.call e.string).source ≡ Some t → seeds_or_gives e.call ≡ true → e.reply.code ≡ 0 →
+        IsDrawnDone t (chain_of p s e.call e.string) e }
+{}
 
 /// After a legal history the tests of a source that runs keep something.
 pub fn running_sources_are_tested()

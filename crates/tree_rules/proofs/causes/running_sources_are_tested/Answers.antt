@@ -1,7 +1,7 @@
-use Rattle.std.specs.Prelude.{ℕ, List, Option, Some, None, IsSome, true, ◌≡◌}
-use Rattle.std.proofs.Common.{refl, ap, subst, sym}
+use Rattle.std.specs.Prelude.{Option, Some, None, IsSome}
+use Rattle.std.proofs.Common.{refl, subst, sym}
 use Rattle.health_tests.specs.declared.numbers.Tail.{Tail}
-use Rattle.tree_rules.specs.History.{Entry, Opening, opened, source_in}
+use Rattle.tree_rules.specs.History.{opened, source_in}
 use Rattle.tree_rules.specs.Slots.{source_slot}
 use Rattle.tree_rules.proofs.Parting.{opened_is_source, opened_source_is}
 use Rattle.tree_rules.proofs.Rightness.{HasTail, RunsTold, told_after}
