@@ -25,6 +25,8 @@ use Rattle.tree_rules.specs.History.{Act, AtNode, AtSource, SlotAct, States, own
 use Rattle.tree_rules.specs.Links.{Gives, Link, Rests, Seeds, Task, asks_parent, chunk_lens, chunks, is_alive, is_rs, is_xor, link, links, must_seed, seeding_by, seeding_len}
 use Rattle.tree_rules.specs.Replies.{count_limit}
 use Rattle.tree_rules.specs.Slots.{ancestors, lineage, no_node, node_plan, node_row}
+use Rattle.tree_rules.proofs.Lasting.{parent_is_childs}
+use Rattle.tree_rules.proofs.Paths.{no_more}
 use Rattle.tree_rules.specs.Works.{Work, chunked, gave, given_work, last_drawn, material, mixed, task_work, worked}
 
 -- What is counted of acts: the seedings, or the generates. A source's acts count nothing, and so does an uninstantiation.
@@ -198,26 +200,11 @@ ancestors_few (suc far) p None = omega arith
 ancestors_few (suc far) p (Some n) = let h = ancestors_few far p (parent_in (node_plan p n).origin) in omega (arith, h)
 
 -- an RBG3(RS) has no parent
-of_source : (least sources nodes : ℕ) (kind : NodeKind) (o : Origin) → is_rs kind ≡ true → planned.Fits least sources nodes kind o → parent_in o ≡ None
-of_source least sources nodes Rbg3Rs (Source j) is h = refl
-of_source least sources nodes Rbg3Rs (SeedFile name) is h = absurd h
-of_source least sources nodes Rbg3Rs (Parent q) is h = absurd h
-of_source least sources nodes Rbg1 o is h = cc
-of_source least sources nodes Rbg2 o is h = cc
-of_source least sources nodes Rbg3Xor o is h = cc
-of_source least sources nodes Child o is h = cc
-
-no_parent : (least : ℕ) (p : Tree) (n : ℕ) → IsPlanned least p → is_rs (node_row p n).kind ≡ true → parent_in (node_plan p n).origin ≡ None
-no_parent least p n plan is = by (slice_get p.nodes n) (plan.node n) is where
-  by : (o : Option NodePlan) → ((x : NodePlan) → o ≡ Some x → planned.IsNode least (length p.sources) (length p.nodes) x)
-      → is_rs (unwrap_or o no_node).kind ≡ true → parent_in (unwrap_or o no_node).origin ≡ None
-  by None f is = cc
-  by (Some x) f is = of_source least (length p.sources) (length p.nodes) x.kind x.origin is (f x refl).origin
-
-no_more : (a b : Bool) → (a && b && false) ≡ false
-no_more true true = refl
-no_more true false = refl
-no_more false b = refl
+no_parent : (least : ℕ) (p : Tree) (n : ℕ) → IsPlanned least p → is_rs (node_row p n).kind ≡ true → is_some (parent_in (node_plan p n).origin) ≡ false
+no_parent least p n plan is = by (is_some (parent_in (node_plan p n).origin)) refl where
+  by : (b : Bool) → is_some (parent_in (node_plan p n).origin) ≡ b → b ≡ false
+  by false at = refl
+  by true at = let other = (parent_is_childs least p n plan at).1 in cc
 
 -- what is asked of a named node
 abbrev pub IsBrief : Tree → ℕ → Task → Type 0
@@ -262,6 +249,6 @@ module _ (w : SlotAct → ℕ) (is : IsWeight w) (least : ℕ) (p : Tree) (plan 
         let all = both_few w is p s pr drawn string l (rest (asks_parent pr l)) (3 * length up) 1 (some_rest (asks_parent pr l)) (one false at refl task) in
         omega (arith, few, nodes, all)
     by true at =
-        let no_up : asks_parent pr l ≡ false = ap (λ o. is_alive l && must_seed pr l && is_some o) (no_parent least p n plan at) ∙ no_more (is_alive l) (must_seed pr l) in
+        let no_up : asks_parent pr l ≡ false = ap (λ b. is_alive l && must_seed pr l && b) (no_parent least p n plan at) ∙ no_more (is_alive l) (must_seed pr l) in
         let none : total w (worked pr drawn [] (rest (asks_parent pr l))).acts ≤ 0 = subst (λ b. total w (worked pr drawn [] (rest b)).acts ≤ 0) (sym no_up) (omega arith) in
         let all = both_few w is p s pr drawn string l (rest (asks_parent pr l)) 0 256 none (many at task brief) in omega (arith, all)

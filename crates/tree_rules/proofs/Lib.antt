@@ -21,6 +21,7 @@ pub mod Listing
 pub mod Committing
 pub mod Pigeons
 pub mod Ranges
+pub mod Lasting
 pub mod Counting
 pub mod Growing
 mod Rows

@@ -20,7 +20,7 @@ use Rattle.std.proofs.lemmas.Bool.Decides.{nat_tests}
 abbrev slots : List Link → List ℕ
 slots ls = map (λ (l : Link). l.slot) ls
 
-no_more : (a b : Bool) → (a && b && false) ≡ false
+pub no_more : (a b : Bool) → (a && b && false) ≡ false
 no_more true true = refl
 no_more true false = refl
 no_more false b = refl
@@ -85,7 +85,7 @@ module _ (p : Tree) (s : States) (pr : Bool) (k : ℕ) where
       cut false h = or_more (n == k) false (has (with_source p (m ∷ up)) k) (λ i. cc)
           (subst (λ z. has (n ∷ z) k ≡ true) (no_source_too p l.origin m is) (alone l h))
 
-below : (a b : ℕ) → nat_le a b ≡ false → nat_lt b a ≡ true
+pub below : (a b : ℕ) → nat_le a b ≡ false → nat_lt b a ≡ true
 below a b h = grind (arith, nat_tests)
 
 module _ (p : Tree) (s : States) (k : ℕ) where

@@ -1,11 +1,11 @@
 -- When no row of the table of refusals stands, in the words of a caller.
 -- This project's own.
-use Rattle.std.specs.Prelude.{◌≡◌, ◌<◌, ◌≤◌, ℕ, ◌+◌, List, length, true, false, IsSome}
+use Rattle.std.specs.Prelude.{◌≡◌, ◌<◌, ◌≤◌, ℕ, ◌+◌, List, [], ◌∷◌, length, true, false, IsSome}
 use Rattle.rbg_bytes.specs.Kinds.{strength}
 use Rattle.tree_config.specs.Tree.{Tree}
 use Rattle.tree_rules.specs.declared.call.Call.{Call}
 use Rattle.tree_rules.specs.Slots.{node_row}
-use Rattle.tree_rules.specs.Links.{first_link, last_link, is_alive, is_rbg1}
+use Rattle.tree_rules.specs.Links.{Link, first_link, last_link, is_alive, is_rbg1}
 use Rattle.tree_rules.specs.Chain.{Chain, asks_pr, named, need}
 use Rattle.tree_rules.specs.Replies.{is_instantiate, is_reseed, is_start, seeds_or_gives, needs_life, asked_count, asked_strength, there_are, count_limit, string_limit, sample_limit, taken_of, mode_of, is_running}
 
@@ -32,3 +32,9 @@ pub record IsFree (p : Tree) (c : Call) (string : List ℕ) (ch : Chain) : Type 
   -- the source may give so many samples more, and where any are needed it runs, or is started
   pub room : taken_of ch.source + need c ch ≤ sample_limit
   pub runs : 0 < need c ch → is_start c ≡ false → is_running (mode_of ch.source) ≡ true
+
+-- of these nodes an RBG1 is the last one at most
+abbrev pub EndAtRbg1 : List Link → Type 0
+EndAtRbg1 [] = Unit {0}
+EndAtRbg1 (l ∷ []) = Unit {0}
+EndAtRbg1 (l ∷ m ∷ ls) = (is_rbg1 l.row.kind ≡ false) × EndAtRbg1 (m ∷ ls)

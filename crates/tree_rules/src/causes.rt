@@ -16,7 +16,7 @@ ghost use Rattle.tree_rules.specs.Replies.{chain_of, is_running, refusal, seeds_
 ghost use Rattle.tree_rules.specs.Fits.{Fits, Legal};
 ghost use Rattle.tree_rules.specs.Served.{Served};
 ghost use Rattle.tree_rules.specs.Causes.{IsOfTable, IsCaused, HasEnough, IsDone, IsDrawnDone, blocks_left, bytes_of};
-ghost use Rattle.tree_rules.specs.Free.{IsFree};
+ghost use Rattle.tree_rules.specs.Free.{EndAtRbg1, IsFree};
 
 use entropy_source::{draws_end_by_their_reads, starts_end_by_their_reads};
 
@@ -75,6 +75,11 @@ pub fn calls_are_free_where_they_may_be_made()
         (refusal p c string (chain_of p s c string) ≡ None ↔ IsFree p c string (whole_chain p s c)) }
     ensures whole { (p : Tree) (s : States) (c : Call) (string : List ℕ) → refusal p c string (chain_of p s c string) ≡ None →
         chain_of p s c string ≡ whole_chain p s c }
+{}
+
+/// In a plan in range, an RBG1 of a chain is its last node. So what is said of the last node as an RBG1 is said of every one of the chain.
+pub fn rbg1s_end_their_chains()
+    ensures { (least : ℕ) (p : Tree) (s : States) (c : Call) → IsPlanned least p → EndAtRbg1 (whole_chain p s c).links }
 {}
 
 /// A call that may be made is Done, with exactly the bytes that its chain and its source's samples say, where it needs no source, or
