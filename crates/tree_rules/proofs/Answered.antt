@@ -1,25 +1,21 @@
 -- How the reply of a call that no row of the table refuses comes of its source.
-use Rattle.std.proofs.Common.{◌≡◌, ◌≢◌, ◌∙◌, ◌++◌, ◌+◌, ◌-◌, ◌*◌, ◌<◌, ℕ, zero, suc, arith, List, [], Bool, true, false, length, map, refl, sym, ap, subst, append-nil}
+use Rattle.std.proofs.Common.{◌≡◌, ◌∙◌, ◌++◌, ◌-◌, ◌*◌, ◌<◌, ℕ, zero, suc, arith, List, [], true, false, length, map, refl, sym, ap, subst, append-nil}
 use Rattle.std.specs.Prelude.{sum, nat_lt, Option, Some, None, IsSome, Result, Ok, Err, MatchOption, MatchResult}
 use Rattle.health_tests.specs.declared.numbers.Tail.{Tail}
 use Rattle.health_tests.specs.declared.windows.Alarm.{Alarm}
 use Rattle.health_tests.specs.Windows.{alarm_in}
-use Rattle.entropy_source.specs.Counted.{samples_of, lacking_after, gave_none, has_failed}
+use Rattle.entropy_source.specs.Counted.{samples_of, lacking_after}
 use Rattle.entropy_source.specs.Draws.{Drawn, Draws, found_in, portions}
 use Rattle.entropy_source.specs.Draws as draws
-use Rattle.entropy_source.specs.Outcomes as ends
 use Rattle.entropy_source.specs.Outcomes.{Outcome}
-use Rattle.entropy_source.specs.Source.{Began, SourceAct, blocks_for, SourceState, need_of_block, source_after, source_after_all}
-use Rattle.entropy_source.specs.declared.answers.Cause.TheVariants as causes
+use Rattle.entropy_source.specs.Source.{SourceAct, blocks_for, SourceState, need_of_block, source_after_all}
 use Rattle.entropy_source.specs.declared.answers.SourceRow.{SourceRow}
 use Rattle.entropy_source.specs.declared.answers.SourceRefusal.{SourceRefusal}
 use Rattle.health_tests.specs.Numbers.{alarm_from}
-use Rattle.entropy_source.specs.declared.answers.SourceRefusal.TheVariants.{HealthFailed, InError, SourceFault, SourceSpent, WantOfEntropy}
-use Rattle.rbg_bytes.specs.Streams.{Rose}
 use Rattle.tree_config.specs.Tree.{Tree}
-use Rattle.tree_rules.specs.Causes.{IsOfTable, FaultsWhere, FailsAt, WantsWhere, IsCaused, alarm_of, missing_after}
+use Rattle.tree_rules.specs.Causes.{FailsAt, IsCaused, alarm_of, missing_after}
 use Rattle.tree_rules.specs.Chain.{Chain, SourceLink, asks_pr, need, need_by, source_at, wants}
-use Rattle.tree_rules.specs.Fits.{AnswersBy, DrawsAndWorks, Fits, Serves, Starts, at_source, done, found_by, refused, source_reply, start_reply}
+use Rattle.tree_rules.specs.Fits.{AnswersBy, DrawsAndWorks, Fits, Serves, Starts, at_source, done, found_by, source_reply, start_reply}
 use Rattle.tree_rules.specs.History.{Act, Entry, States, at_slot}
 use Rattle.tree_rules.specs.Links.{Link, first_link}
 use Rattle.tree_rules.specs.Replies.{chain_of, first_reply, is_running, is_start, mode_of, plain_rows, refusal}
@@ -28,16 +24,12 @@ use Rattle.rbg_nodes.specs.Node.{Cleared}
 use Rattle.tree_rules.specs.declared.call.Call.{Call}
 use Rattle.tree_rules.specs.declared.call.Call.TheVariants.{Generate, Instantiate, Reseed, Start, Status, Uninstantiate}
 use Rattle.tree_rules.specs.declared.reply.Reply.{Reply}
-use Rattle.tree_rules.proofs.Endings.{Left, StartLeft, draws_left, start_left}
+use Rattle.tree_rules.proofs.Endings.{draws_left, start_left}
 use Rattle.tree_rules.proofs.Plans.{TakeSamples, takes_samples}
 use Rattle.tree_rules.proofs.Quieting.{some_samples}
 use Rattle.tree_rules.proofs.Sources.{IsSourceOf, at_slot-append, chain_fits, here_all, need_is, none_worked, node_skip, runs}
 use Rattle.tree_config.specs.Planned.{IsPlanned}
-
--- the reply by how the source ended
-abbrev pub ReplyBy : ℕ → Entry → Result (List ℕ) SourceRefusal → Type 0
-ReplyBy j e (Ok bytes) = e.reply ≡ done e.bytes
-ReplyBy j e (Err why) = (e.reply ≡ source_reply j why) × (e.bytes ≡ [])
+use Rattle.tree_rules.proofs.Wording.{ReplyBy, cause_by, code_is, read_left, read_started}
 
 -- the acts of a call's source, of which this holds, and the reply by how they ended
 pub record Answered (Used : List SourceAct → Result (List ℕ) SourceRefusal → Type 0) (t : SourceLink) (e : Entry) : Type 0 where
@@ -56,99 +48,6 @@ DrawsEnd = (row : SourceRow) (t : Tail) (s : SourceState) (wants : List ℕ) (ac
 abbrev pub StartsEnd : Type 0
 StartsEnd = (row : SourceRow) (s : SourceState) (acts : List SourceAct) (result : Result (List ℕ) SourceRefusal) → draws.Start row s acts result
     → Outcome s.taken (alarm_in row.cutoffs [] (samples_of acts)) (row.startup - length (samples_of acts)) acts result
-
--- the fault count by how the acts ended
-abbrev Counts : ℕ → ℕ → Result (List ℕ) SourceRefusal → Type 0
-Counts before now (Err (SourceFault count)) = (now ≡ count) × Rose before count
-Counts before now _ = now ≡ before
-
--- neither numbers nor the mode are a reason any more
-abbrev IsRead : Result (List ℕ) SourceRefusal → Type 0
-IsRead (Err (SourceSpent a b)) = ⊥
-IsRead (Err (InError cause)) = ⊥
-IsRead _ = Unit {0}
-
-read_left : (s now : SourceState) (end : Result (List ℕ) SourceRefusal) → Left s now end → IsRead end × Counts s.faults now.faults end
-read_left s now (Ok bytes) h = (tt, h.1)
-read_left s now (Err (SourceSpent a b)) h = absurd h
-read_left s now (Err (InError cause)) h = absurd h
-read_left s now (Err (SourceFault n)) h = (tt, (h.1, h.2))
-read_left s now (Err (HealthFailed index test)) h = (tt, h.1)
-read_left s now (Err (WantOfEntropy n)) h = (tt, h.1)
-
-read_started : (row : SourceRow) (s now : SourceState) (end : Result (List ℕ) SourceRefusal) → StartLeft row s now end → IsRead end × Counts s.faults now.faults end
-read_started row s now (Ok bytes) h = (tt, h.1)
-read_started row s now (Err why) h = read_left (source_after row s Began) now (Err why) h
-
--- from the words of one kind of answer to those of the reply
-module _ (t : SourceLink) (e : Entry) where
-  abbrev j : ℕ
-  j = t.number
-
-  code_is : (n : ℕ) (r : Reply) → e.reply ≡ r → r.code ≢ n → e.reply.code ≢ n
-  code_is n r is other = λ h. other (sym (ap (λ (z : Reply). z.code) is) ∙ h)
-
-  health_by : (taken : ℕ) (o : Option Alarm) (end : Result (List ℕ) SourceRefusal) → ends.FailsAt taken o end → ReplyBy j e end → FailsAt taken o e.reply
-  health_by taken None (Ok bytes) h r = code_is 13 (done e.bytes) r (λ (i : 0 ≡ 13). cc)
-  health_by taken None (Err (SourceSpent a b)) h r = code_is 13 (source_reply j (SourceSpent a b)) r.0 (λ (i : 10 ≡ 13). cc)
-  health_by taken None (Err (InError causes.NotStarted)) h r = code_is 13 (source_reply j (InError causes.NotStarted)) r.0 (λ (i : 11 ≡ 13). cc)
-  health_by taken None (Err (InError (causes.Alarm a b))) h r = code_is 13 (source_reply j (InError (causes.Alarm a b))) r.0 (λ (i : 11 ≡ 13). cc)
-  health_by taken None (Err (SourceFault n)) h r = code_is 13 (source_reply j (SourceFault n)) r.0 (λ (i : 12 ≡ 13). cc)
-  health_by taken None (Err (HealthFailed index test)) h r = absurd (h index test refl)
-  health_by taken None (Err (WantOfEntropy n)) h r = code_is 13 (source_reply j (WantOfEntropy n)) r.0 (λ (i : 14 ≡ 13). cc)
-  health_by taken (Some a) (Ok bytes) h r = cc
-  health_by taken (Some a) (Err why) h r = let is : why ≡ HealthFailed (taken + a.at) a.test = cc in r.0 ∙ ap (source_reply j) is
-
-  want_by : (b : Bool) (missing : ℕ) (end : Result (List ℕ) SourceRefusal) → ends.WantsWhere b missing end → ReplyBy j e end → WantsWhere j b missing e.reply
-  want_by true missing (Ok bytes) h r = cc
-  want_by true missing (Err why) h r = let is : why ≡ WantOfEntropy missing = cc in r.0 ∙ ap (source_reply j) is
-  want_by false missing (Ok bytes) h r = code_is 14 (done e.bytes) r (λ (i : 0 ≡ 14). cc)
-  want_by false missing (Err (SourceSpent a b)) h r = code_is 14 (source_reply j (SourceSpent a b)) r.0 (λ (i : 10 ≡ 14). cc)
-  want_by false missing (Err (InError causes.NotStarted)) h r = code_is 14 (source_reply j (InError causes.NotStarted)) r.0 (λ (i : 11 ≡ 14). cc)
-  want_by false missing (Err (InError (causes.Alarm a b))) h r = code_is 14 (source_reply j (InError (causes.Alarm a b))) r.0 (λ (i : 11 ≡ 14). cc)
-  want_by false missing (Err (SourceFault n)) h r = code_is 14 (source_reply j (SourceFault n)) r.0 (λ (i : 12 ≡ 14). cc)
-  want_by false missing (Err (HealthFailed index test)) h r = code_is 14 (source_reply j (HealthFailed index test)) r.0 (λ (i : 13 ≡ 14). cc)
-  want_by false missing (Err (WantOfEntropy n)) h r = absurd (h n refl)
-
-  fault_by : (b : Bool) (before now : ℕ) (end : Result (List ℕ) SourceRefusal) → ends.FaultsWhere b end → Counts before now end → ReplyBy j e end
-      → FaultsWhere j before now b e.reply
-  fault_by true before now (Ok bytes) (count, h) f r = cc
-  fault_by true before now (Err (SourceSpent a b)) (count, h) f r = cc
-  fault_by true before now (Err (InError cause)) (count, h) f r = cc
-  fault_by true before now (Err (SourceFault n)) (count, h) (is, rose) r =
-      (r.0 ∙ ap (λ k. refused 12 k j) (sym is), subst (λ k. Rose before k) (sym is) rose)
-  fault_by true before now (Err (HealthFailed index test)) (count, h) f r = cc
-  fault_by true before now (Err (WantOfEntropy n)) (count, h) f r = cc
-  fault_by false before now (Ok bytes) h f r = (code_is 12 (done e.bytes) r (λ (i : 0 ≡ 12). cc), f)
-  fault_by false before now (Err (SourceSpent a b)) h f r = (code_is 12 (source_reply j (SourceSpent a b)) r.0 (λ (i : 10 ≡ 12). cc), f)
-  fault_by false before now (Err (InError causes.NotStarted)) h f r = (code_is 12 (source_reply j (InError causes.NotStarted)) r.0 (λ (i : 11 ≡ 12). cc), f)
-  fault_by false before now (Err (InError (causes.Alarm a b))) h f r = (code_is 12 (source_reply j (InError (causes.Alarm a b))) r.0 (λ (i : 11 ≡ 12). cc), f)
-  fault_by false before now (Err (SourceFault n)) h f r = absurd (h n refl)
-  fault_by false before now (Err (HealthFailed index test)) h f r = (code_is 12 (source_reply j (HealthFailed index test)) r.0 (λ (i : 13 ≡ 12). cc), f)
-  fault_by false before now (Err (WantOfEntropy n)) h f r = (code_is 12 (source_reply j (WantOfEntropy n)) r.0 (λ (i : 14 ≡ 12). cc), f)
-
-  done_by : (taken missing : ℕ) (o : Option Alarm) (b c : Bool) (end : Result (List ℕ) SourceRefusal) → IsRead end → ends.FaultsWhere b end
-      → ends.FailsAt taken o end → ends.WantsWhere c missing end → ReplyBy j e end → b ≡ false → o ≡ None → c ≡ false → e.reply.code ≡ 0
-  done_by taken missing o b c (Ok bytes) read f h w r i k l = ap (λ (z : Reply). z.code) r
-  done_by taken missing o b c (Err (SourceSpent x y)) read f h w r i k l = absurd read
-  done_by taken missing o b c (Err (InError x)) read f h w r i k l = absurd read
-  done_by taken missing o b c (Err (SourceFault n)) read f h w r i k l =
-      let no = subst (λ z. ends.FaultsWhere z (Err (SourceFault n))) i f in absurd (no n refl)
-  done_by taken missing o b c (Err (HealthFailed index test)) read f h w r i k l =
-      let no = subst (λ z. ends.FailsAt taken z (Err (HealthFailed index test))) k h in absurd (no index test refl)
-  done_by taken missing o b c (Err (WantOfEntropy n)) read f h w r i k l =
-      let no = subst (λ z. ends.WantsWhere z missing (Err (WantOfEntropy n))) l w in absurd (no n refl)
-
-  cause_by : (c : Call) (acts : List SourceAct) (end : Result (List ℕ) SourceRefusal)
-      → Outcome t.state.taken (alarm_of c t (samples_of acts)) (missing_after c t acts) acts end
-      → IsRead end × Counts t.state.faults (source_after_all t.row t.state acts).faults end → ReplyBy j e end
-      → IsCaused c t acts (source_after_all t.row t.state acts) e.reply
-  cause_by c acts end o (read, counts) r = record {
-    fault = fault_by (has_failed acts) t.state.faults (source_after_all t.row t.state acts).faults end o.fault counts r;
-    health = health_by t.state.taken (alarm_of c t (samples_of acts)) end o.health r;
-    want = want_by (gave_none acts) (missing_after c t acts) end o.want r;
-    done = done_by t.state.taken (missing_after c t acts) (alarm_of c t (samples_of acts)) (has_failed acts) (gave_none acts) end read o.fault o.health o.want r;
-  }
 
 -- the source's acts among those of the entry
 pub acts_here : (t : SourceLink) (acts : List SourceAct) (w : List Act) → at_slot t.slot w ≡ [] → at_slot t.slot (map (at_source t) acts ++ w) ≡ acts
@@ -324,51 +223,3 @@ pub caused : DrawsEnd → StartsEnd → (least : ℕ) (p : Tree) (s : States) (e
 caused draws_end starts_end least p s e t planned f free is tested =
     serves_caused draws_end starts_end (chain_of p s e.call e.string) e t e.call is
     (λ start more. tested (runs_where p s e.call e.string t (takes_samples least p planned) free is start more)) (served p s e f free)
-
--- none of the codes of the table comes of a source
-module _ (e : Entry) (early : IsOfTable e.reply.code) where
-  not_early : (n : ℕ) (r : Reply) → e.reply ≡ r → r.code ≡ n → ¬ IsOfTable n → ⊥
-  not_early n r is at never = never (subst (λ z. IsOfTable z) (ap (λ (z : Reply). z.code) is ∙ at) early)
-
-  abbrev no_zero : ¬ IsOfTable 0
-  no_zero i = let l = i.low in omega arith
-
-  late : (j : ℕ) (end : Result (List ℕ) SourceRefusal) → IsRead end → ReplyBy j e end → ⊥
-  late j (Ok bytes) read r = not_early 0 (done e.bytes) r refl no_zero
-  late j (Err (SourceSpent a b)) read r = absurd read
-  late j (Err (InError cause)) read r = absurd read
-  late j (Err (SourceFault n)) read r = not_early 12 (source_reply j (SourceFault n)) r.0 refl (λ i. let h = i.high in omega arith)
-  late j (Err (HealthFailed index test)) read r = not_early 13 (source_reply j (HealthFailed index test)) r.0 refl (λ i. let h = i.high in omega arith)
-  late j (Err (WantOfEntropy n)) read r = not_early 14 (source_reply j (WantOfEntropy n)) r.0 refl (λ i. let h = i.high in omega arith)
-
-  works_late : (c : Call) (ls : List Link) (lens : List ℕ) (source : Option SourceLink) → DrawsAndWorks (found_by source) c ls lens source e → ⊥
-  works_late c ls lens None w = not_early 0 _ w.reply_is refl no_zero
-  works_late c ls lens (Some t) w =
-      let a = works_answered (found_by (Some t)) c ls lens t e w in
-      let read = read_left t.state (source_after_all t.row t.state a.acts) a.end (draws_left t.row (found_by (Some t)) (sum (map (λ n. blocks_for t.row n) lens)) t.state [] [] a.acts a.end a.used) in
-      late t.number a.end read.0 a.reply
-
-  start_late : (source : Option SourceLink) → Starts source e → ⊥
-  start_late None w = w
-  start_late (Some t) w =
-      let a = start_answered t e w in
-      let read = read_started t.row t.state (source_after_all t.row t.state a.acts) a.end (start_left t.row t.state a.acts a.end a.used) in
-      late t.number a.end read.0 a.reply
-
-  serves_late : (ch : Chain) (c : Call) → Serves (found_by ch.source) ch e c → ⊥
-  serves_late ch (Start i) w = start_late ch.source w
-  serves_late ch (Uninstantiate n) w = not_early 0 _ w.reply_is refl no_zero
-  serves_late ch (Status n) w = not_early 0 _ w.reply_is refl no_zero
-  serves_late ch (Instantiate n x) w = works_late (Instantiate n x) ch.links (wants (Instantiate n x) ch) ch.source w
-  serves_late ch (Generate n x y z) w = works_late (Generate n x y z) ch.links (wants (Generate n x y z) ch) ch.source w
-  serves_late ch (Reseed n z) w = works_late (Reseed n z) ch.links (wants (Reseed n z) ch) ch.source w
-
-pub by_table : (p : Tree) (s : States) (e : Entry) (r : Reply) → Fits p s e → e.reply ≡ r → IsOfTable r.code
-    → refusal p e.call e.string (chain_of p s e.call e.string) ≡ Some r
-by_table p s e r f is early = by (refusal p e.call e.string ch) f.answer where
-  ch : Chain
-  ch = chain_of p s e.call e.string
-
-  by : (o : Option Reply) → MatchOption o (Serves (found_by ch.source) ch e e.call) (λ reply. AnswersBy e [] reply []) → o ≡ Some r
-  by None w = absurd (serves_late e (subst (λ (z : Reply). IsOfTable z.code) (sym is) early) ch e.call w)
-  by (Some x) w = ap Some (sym w.reply_is ∙ is)

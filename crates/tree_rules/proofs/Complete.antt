@@ -1,6 +1,6 @@
 -- A call that no row of the table refuses is Done, where its source tells its samples and enough of them are left without an alarm.
 use Rattle.std.proofs.Common.{◌≡◌, ◌∙◌, ◌++◌, ◌∷◌, ◌+◌, ◌-◌, ◌<◌, ◌≤◌, ℕ, List, [], Bool, true, false, length, map, take, refl, sym, ap, subst, arith, append-nil}
-use Rattle.std.specs.Prelude.{◌==◌, ◌||◌, sum, Option, Some, None, IsSome, Result, Ok, Err, MatchResult}
+use Rattle.std.specs.Prelude.{◌||◌, sum, Option, Some, None, IsSome, Result, Ok, Err, MatchResult}
 use Rattle.std.proofs.Math.Seq.{take-append-add}
 use Rattle.rbg_bytes.specs.Streams.{Rose}
 use Rattle.health_tests.proofs.Alarms.{alarm_tells}
@@ -30,7 +30,7 @@ use Rattle.tree_rules.specs.declared.call.Call.{Call}
 use Rattle.tree_rules.specs.declared.call.Call.TheVariants.{Generate, Instantiate, Reseed, Start, Status, Uninstantiate}
 use Rattle.tree_rules.specs.declared.reply.Reply.{Reply}
 use Rattle.tree_rules.proofs.Answered.{acts_here, DrawsEnd, StartsEnd, caused, served, start_answered, works_answered}
-use Rattle.tree_rules.proofs.Sources.{need_is, none_worked, node_skip, not_done}
+use Rattle.tree_rules.proofs.Sources.{need_is, never_done, none_worked, node_skip}
 use Rattle.tree_rules.proofs.Told.{Took, gave_append, took, took_all}
 use Rattle.entropy_source.proofs.Joins.{samples_append}
 
@@ -156,13 +156,6 @@ serves_front ch e t left (Status n) is told w =
 serves_front ch e t left (Instantiate n x) is told w = works_front ch e t left (Instantiate n x) is told refl w
 serves_front ch e t left (Generate n x y z) is told w = works_front ch e t left (Generate n x y z) is told refl w
 serves_front ch e t left (Reseed n z) is told w = works_front ch e t left (Reseed n z) is told refl w
-
--- a refusal of a source isn't Done
-never_done : (e : Entry) (j : ℕ) (why : SourceRefusal) → e.reply ≡ source_reply j why → e.reply.code ≡ 0 → ⊥
-never_done e j why is code =
-    let off = not_done j why in
-    let at : (source_reply j why).code ≡ 0 = sym (ap (λ (z : Reply). z.code) is) ∙ code in
-    let on : ((source_reply j why).code == 0) ≡ true = ap (λ z. z == 0) at in cc
 
 -- what a call that was Done gave
 works_done : (c : Call) (ls : List Link) (lens : List ℕ) (t : SourceLink) (e : Entry)

@@ -3,7 +3,7 @@ use Rattle.std.proofs.Common.{◌≡◌, ◌∙◌, ◌++◌, ◌∷◌, ◌+◌
 use Rattle.std.proofs.lemmas.Grind.{div_ceil_times}
 use Rattle.std.specs.Int.{div_ceil}
 use Rattle.std.proofs.Math.Bool.{or-true}
-use Rattle.std.specs.Prelude.{◌&&◌, ◌||◌, ◌==◌, if◌then◌else◌, is_some, max, Option, Some, None, slice_get, unwrap_or}
+use Rattle.std.specs.Prelude.{◌&&◌, ◌||◌, ◌==◌, if◌then◌else◌, is_some, max, Option, Some, None}
 use Rattle.rbg_bytes.specs.Kinds.{strength}
 use Rattle.rbg_bytes.specs.declared.kind.Kind.{Kind}
 use Rattle.rbg_bytes.specs.declared.kind.Kind.TheVariants as kinds
@@ -11,20 +11,14 @@ use Rattle.entropy_source.specs.Source.{SourceAct}
 use Rattle.rbg_nodes.specs.declared.node.NodeRow.{NodeRow}
 use Rattle.rbg_nodes.specs.Node.{Cleared, Gave, How, New, NodeState, Renew, Seeded, entropy_len, given_bytes, node_after, seed_len}
 use Rattle.rbg_nodes.specs.Views.{xor_bytes}
-use Rattle.tree_config.specs.Planned as planned
 use Rattle.tree_config.specs.Planned.{IsPlanned}
 use Rattle.tree_config.specs.Tree.{Tree, parent_in}
-use Rattle.tree_config.specs.declared.plan.NodeKind.{NodeKind}
-use Rattle.tree_config.specs.declared.plan.NodeKind.TheVariants.{Child, Rbg1, Rbg2, Rbg3Rs, Rbg3Xor}
-use Rattle.tree_config.specs.declared.plan.NodePlan.{NodePlan}
-use Rattle.tree_config.specs.declared.plan.Origin.{Origin}
-use Rattle.tree_config.specs.declared.plan.Origin.TheVariants.{Parent, SeedFile, Source}
 use Rattle.tree_rules.specs.Chain.{SourceLink}
 use Rattle.tree_rules.specs.Fits.{at_source}
 use Rattle.tree_rules.specs.History.{Act, AtNode, AtSource, SlotAct, States, own}
 use Rattle.tree_rules.specs.Links.{Gives, Link, Rests, Seeds, Task, asks_parent, chunk_lens, chunks, is_alive, is_rs, is_xor, link, links, must_seed, seeding_by, seeding_len}
 use Rattle.tree_rules.specs.Replies.{count_limit}
-use Rattle.tree_rules.specs.Slots.{ancestors, lineage, no_node, node_plan, node_row}
+use Rattle.tree_rules.specs.Slots.{ancestors, lineage, node_plan, node_row}
 use Rattle.tree_rules.proofs.Lasting.{parent_is_childs}
 use Rattle.tree_rules.proofs.Paths.{no_more}
 use Rattle.tree_rules.specs.Works.{Work, chunked, gave, given_work, last_drawn, material, mixed, task_work, worked}

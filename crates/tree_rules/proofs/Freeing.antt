@@ -14,7 +14,7 @@ use Rattle.tree_rules.specs.Replies.{chain_by, chain_of, chain_rows, first_reply
 use Rattle.tree_rules.proofs.Leaves.{none_before}
 use Rattle.tree_rules.proofs.Sources.{NoneStands, none_stands}
 
-lt_of : (a b : ℕ) → nat_le a b ≡ false → b < a
+pub lt_of : (a b : ℕ) → nat_le a b ≡ false → b < a
 lt_of a b h = grind (arith, nat_tests)
 
 of_lt : (a b : ℕ) → b < a → nat_le a b ≡ false

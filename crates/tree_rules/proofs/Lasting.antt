@@ -9,7 +9,7 @@ use Rattle.tree_config.specs.declared.plan.NodeKind.TheVariants.{Child, Rbg1, Rb
 use Rattle.tree_config.specs.declared.plan.NodePlan.{NodePlan}
 use Rattle.tree_config.specs.declared.plan.Origin.{Origin}
 use Rattle.tree_config.specs.declared.plan.Origin.TheVariants.{Parent, SeedFile, Source}
-use Rattle.tree_rules.specs.Chain.{asks_pr, named, task_of, whole_chain}
+use Rattle.tree_rules.specs.Chain.{asks_pr, task_of, whole_chain}
 use Rattle.tree_rules.specs.Free.{EndAtRbg1}
 use Rattle.tree_rules.specs.History.{States}
 use Rattle.tree_rules.specs.Links.{Gives, Link, Task, asks_parent, is_alive, is_rbg1, is_rs, link, links, must_seed, seeding_len}

@@ -32,7 +32,7 @@ has_split (x ∷ xs) ys k h =
     let d = or_false (x == k) (has (xs ++ ys) k) h in
     let r = has_split xs ys k d.1 in (rw (d.0, r.0) refl, r.1)
 
-if_false : {A : Type 0} (b : Bool) (x y : A) → b ≡ false → (if b then x else y) ≡ y
+pub if_false : {A : Type 0} (b : Bool) (x y : A) → b ≡ false → (if b then x else y) ≡ y
 if_false b x y e = ap (λ (c : Bool). if c then x else y) e
 
 pub own-append : (k : ℕ) (xs ys : List Act) → own k (xs ++ ys) ≡ own k xs ++ own k ys

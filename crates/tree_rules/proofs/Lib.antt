@@ -11,11 +11,15 @@ pub mod Running
 pub mod Paths
 pub mod Parts
 pub mod Endings
+pub mod Wording
 pub mod Answered
+pub mod Early
 pub mod Told
 pub mod Complete
 pub mod Freeing
 pub mod Leaving
+pub mod Staying
+pub mod Seeding
 pub mod Coding
 pub mod Listing
 pub mod Committing

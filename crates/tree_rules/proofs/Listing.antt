@@ -8,7 +8,7 @@ use Rattle.tree_rules.specs.Fits.{Fits}
 use Rattle.tree_rules.specs.Table.{opening_list, has_at_front, touches, after_entry, slot_list, slot_state, Tells, FitsLists, LegalLists, Reads, lists_after}
 use Rattle.tree_rules.proofs.Coding.{numbers_back, entry_back, opening_back, list_back}
 use Rattle.tree_rules.proofs.Near.{near}
-use Rattle.tree_rules.proofs.Leaves.{leaves}
+use Rattle.tree_rules.proofs.Leaves.{if_false, leaves}
 
 front_has : (chain r : List ℕ) (k : ℕ) → has_at_front (numbers chain r) k ≡ has chain k
 front_has [] r k = refl
@@ -29,9 +29,6 @@ near_lists o e s t same f = record {
   told = λ k h. subst (λ l. Tells f.opening f.calls k l (f.states k))
       (same k (ap (λ l. touches l k) f.entry_is ∙ (touches_entry f.entry k ∙ h))) (f.told k h);
 }
-
-if_false : {A : Type 0} (b : Bool) (x y : A) → b ≡ false → (if b then x else y) ≡ y
-if_false b x y e = ap (λ (c : Bool). if c then x else y) e
 
 if_true : {A : Type 0} (b : Bool) (x y : A) → b ≡ true → (if b then x else y) ≡ x
 if_true b x y e = ap (λ (c : Bool). if c then x else y) e

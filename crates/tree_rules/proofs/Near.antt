@@ -22,7 +22,7 @@ Agree s t slots = (k : ℕ) → has slots k ≡ true → s k ≡ t k
 pub has_first : (n : ℕ) (xs : List ℕ) → has (n ∷ xs) n ≡ true
 has_first n xs = rw (eq-eqb n n refl) refl
 
-or_true : (a b : Bool) → b ≡ true → (a || b) ≡ true
+pub or_true : (a b : Bool) → b ≡ true → (a || b) ≡ true
 or_true true b h = refl
 or_true false b h = h
 

@@ -3,7 +3,7 @@ use Rattle.std.proofs.Common.{◌≡◌, ◌∙◌, ◌∷◌, ◌+◌, ◌<◌,
 use Rattle.std.proofs.lemmas.Bool.{cases_lt}
 use Rattle.std.proofs.lemmas.Bool.Decides.{nat_tests}
 use Rattle.std.proofs.lemmas.List.{length-map}
-use Rattle.std.specs.Prelude.{◌==◌, ◌||◌, ◌⊎◌, if◌then◌else◌, nat_le, nat_lt, option_and_then, Option, Some, None, slice_get, unwrap_or}
+use Rattle.std.specs.Prelude.{◌==◌, ◌||◌, ◌⊎◌, if◌then◌else◌, nat_lt, option_and_then, Option, Some, None, slice_get, unwrap_or}
 use Rattle.tree_config.proofs.Paths.{HasParents, from_never, way_ends}
 use Rattle.tree_config.specs.Graph.{HasDepth, after, parent_at}
 use Rattle.tree_config.specs.Planned as planned
@@ -24,6 +24,7 @@ use Rattle.tree_rules.specs.declared.call.Call.{Call}
 use Rattle.tree_rules.specs.declared.call.Call.TheVariants.{Generate, Instantiate, Reseed, Start, Status, Uninstantiate}
 use Rattle.tree_rules.specs.declared.reply.Reply.{Reply}
 use Rattle.tree_rules.proofs.Depths.{depth_is, same_parent}
+use Rattle.tree_rules.proofs.Freeing.{lt_of}
 use Rattle.tree_rules.proofs.Near.{has_first, has_rest}
 use Rattle.tree_rules.proofs.Paths.{on_path}
 use Rattle.tree_rules.proofs.Pigeons.{eight, few_among}
@@ -171,15 +172,12 @@ target_low p (Reseed n z) h = omega (arith, h)
 target_low p (Uninstantiate n) h = omega (arith, h)
 target_low p (Status n) h = omega (arith, h)
 
-above_of : (a b : ℕ) → nat_le a b ≡ false → b < a
-above_of a b h = grind (arith, nat_tests)
-
 -- a call whose chain has a slot names something that there is
 named_low : (p : Tree) (s : States) (c : Call) (string : List ℕ) (k : ℕ) → has (slots_of (chain_of p s c string)) k ≡ true → named c < there_are p c
 named_low p s c string k h = by (first_reply (plain_rows p c string)) refl h where
   by : (r : Option Reply) → first_reply (plain_rows p c string) ≡ r → has (slots_of (chain_by p s c r)) k ≡ true → named c < there_are p c
   by (Some r) is h = cc
-  by None is h = above_of (there_are p c) (named c) (none_stands (plain_rows p c string) is).0
+  by None is h = lt_of (there_are p c) (named c) (none_stands (plain_rows p c string) is).0
 
 pub in_range : (limit least : ℕ) (p : Tree) (s : States) (c : Call) (string : List ℕ) (k : ℕ) → IsTree limit p.nodes → IsPlanned least p
     → has (slots_of (chain_of p s c string)) k ≡ true → (has (path p (target p c)) k ≡ true) × (k < slot_count p) × (target p c < slot_count p)

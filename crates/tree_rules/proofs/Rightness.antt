@@ -35,7 +35,7 @@ use Rattle.entropy_source.specs.Draws as draws
 use mathlib.Core.Path.{fun_ext}
 
 -- the states after a history are the folds over all its acts
-slot-append : (p : Tree) (k : ℕ) (x : SlotState) (xs ys : List SlotAct) → slot_after_all p k x (xs ++ ys) ≡ slot_after_all p k (slot_after_all p k x xs) ys
+pub slot-append : (p : Tree) (k : ℕ) (x : SlotState) (xs ys : List SlotAct) → slot_after_all p k x (xs ++ ys) ≡ slot_after_all p k (slot_after_all p k x xs) ys
 slot-append p k x [] ys = refl
 slot-append p k x (a ∷ xs) ys = slot-append p k (slot_after p k x a) xs ys
 

@@ -173,6 +173,13 @@ not_done j (SourceFault a) = refl
 not_done j (HealthFailed a b) = refl
 not_done j (WantOfEntropy a) = refl
 
+-- so an entry with that reply isn't Done
+pub never_done : (e : Entry) (j : ℕ) (why : SourceRefusal) → e.reply ≡ source_reply j why → e.reply.code ≡ 0 → ⊥
+never_done e j why is code =
+    let off = not_done j why in
+    let at : (source_reply j why).code ≡ 0 = sym (ap (λ (z : Reply). z.code) is) ∙ code in
+    let on : ((source_reply j why).code == 0) ≡ true = ap (λ z. z == 0) at in cc
+
 -- the samples that a call other than Start takes are those of its lengths
 pub need_is : (c : Call) (t : SourceLink) (lens : List ℕ) → is_start c ≡ false → need_by c (Some t) lens ≡ need_of t.row lens
 need_is (Start i) t lens h = cc

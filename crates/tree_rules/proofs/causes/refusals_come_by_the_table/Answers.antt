@@ -1,5 +1,5 @@
 use Rattle.tree_rules.specs.Replies.{chain_of}
-use Rattle.tree_rules.proofs.Answered.{by_table}
+use Rattle.tree_rules.proofs.Early.{by_table}
 use Rattle.tree_rules.proofs.Refusals.{bare_refusal, coded_by_table, refused_by}
 use Rattle.tree_rules.proofs.causes.refusals_come_by_the_table.Goals as goal
 

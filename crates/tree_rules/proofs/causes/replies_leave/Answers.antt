@@ -1,4 +1,6 @@
-use Rattle.tree_rules.proofs.Leaving.{all_stay, cleared_now, len_is, none_given, others_stay, seeded_now, source_left, status_stays}
+use Rattle.tree_rules.proofs.Leaving.{source_left}
+use Rattle.tree_rules.proofs.Seeding.{cleared_now, seeded_now, status_stays}
+use Rattle.tree_rules.proofs.Staying.{all_stay, len_is, none_given, others_stay}
 use Rattle.tree_rules.proofs.causes.replies_leave.Goals as goal
 
 pub returns-clause-len : goal.returns-clause-len
