@@ -28,5 +28,6 @@ pub mod Ranges
 pub mod Lasting
 pub mod Counting
 pub mod Growing
+pub mod Going
 mod Rows
 pub mod Depths

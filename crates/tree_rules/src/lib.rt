@@ -34,6 +34,6 @@ pub use lists::{
 };
 pub use openings::{
     chains_are_in_range, counts_are_small, histories_are_right_as_a_whole, histories_go_on,
-    paths_are_short,
+    paths_are_short, served_calls_go_on,
 };
 pub use reply::{Reply, ReplyRow};

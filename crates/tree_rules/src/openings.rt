@@ -4,14 +4,16 @@ ghost use Rattle.tree_config.specs.Tree.{Tree, IsTree};
 ghost use Rattle.tree_config.specs.Planned.{IsPlanned};
 ghost use Rattle.rbg_nodes.specs.Node.{NodeState};
 ghost use Rattle.tree_rules.specs.declared.call.Call.{Call};
+ghost use Rattle.tree_rules.specs.declared.reply.Reply.{Reply};
 ghost use Rattle.tree_rules.specs.Slots.{lineage, path, slot_count};
 ghost use Rattle.tree_rules.specs.Chain.{slots_of, target};
 ghost use Rattle.tree_rules.specs.Replies.{chain_of};
 ghost use Rattle.tree_rules.specs.Counts.{HasCounts, IsRaised};
-ghost use Rattle.tree_rules.specs.History.{Distinct, Entry, NodeIs, Opening, States, after, has, opened};
+ghost use Rattle.tree_rules.specs.History.{Distinct, Entry, NodeIs, Opening, States, after, has, opened, states_after};
 ghost use Rattle.tree_rules.specs.Fits.{Fits, Legal};
 ghost use Rattle.tree_rules.specs.Right.{AreRight};
 ghost use Rattle.tree_rules.specs.Openings.{IsOpening, IsHistory, states_behind};
+ghost use Rattle.tree_rules.specs.Served.{Served, entry_of};
 ghost use Rattle.tree_rules.specs.Apart.{Apart};
 ghost use Rattle.tree_rules.specs.Quiet.{Quiet};
 
@@ -53,4 +55,19 @@ pub fn histories_are_right_as_a_whole()
 pub fn histories_go_on()
     ensures { (f : Opening) (o h : List Entry) (e : Entry) → IsHistory f o h →
         (Fits f.plan (states_behind f o h) e ↔ IsHistory f o (h ++ e ∷ [])) }
+{}
+
+/// A call that was served from the states that legal entries leave goes on with them: its entry behind them is legal, and the states are
+/// those after it. So it is of a history behind the opening calls.
+pub fn served_calls_go_on()
+    ensures legal { (limit least : ℕ) (p : Tree) (s : States) (es : List Entry) (old new : States) (c : Call) (string : List ℕ) (reply : Reply)
+        (bytes : List ℕ) (caller : ℕ) → IsTree limit p.nodes → IsPlanned least p → Legal p s es →
+        ((k : ℕ) → k < slot_count p → old k ≡ states_after p s es k) → (served : Served p old new c string reply bytes) →
+        let e = entry_of p old c string reply bytes served.acts caller in
+        Legal p s (es ++ e ∷ []) × ((k : ℕ) → k < slot_count p → new k ≡ states_after p s (es ++ e ∷ []) k) }
+    ensures history { (f : Opening) (o h : List Entry) (old new : States) (c : Call) (string : List ℕ) (reply : Reply) (bytes : List ℕ) (caller : ℕ) →
+        IsHistory f o h → ((k : ℕ) → k < slot_count f.plan → old k ≡ states_behind f o h k) →
+        (served : Served f.plan old new c string reply bytes) →
+        let e = entry_of f.plan old c string reply bytes served.acts caller in
+        IsHistory f o (h ++ e ∷ []) × ((k : ℕ) → k < slot_count f.plan → new k ≡ states_behind f o (h ++ e ∷ []) k) }
 {}
