@@ -8,16 +8,24 @@ use Rattle.conditioner.specs.Conditioned.{conditioned}
 use Rattle.entropy_source.specs.declared.answers.SourceRow.{SourceRow}
 use Rattle.entropy_source.specs.Source.{SourceAct, SourceState, blocks_for, need_of_block}
 use Rattle.entropy_source.specs.Counted.{samples_of, lacking_after, gave_none, has_failed}
+use Rattle.tree_config.specs.Tree.{Tree}
 use Rattle.tree_rules.specs.declared.call.Call.{Call}
 use Rattle.tree_rules.specs.declared.call.Call.TheVariants.{Start, Status, Uninstantiate}
 use Rattle.tree_rules.specs.declared.reply.Reply.{Reply}
 use Rattle.entropy_source.specs.Draws.{Drawn, portions}
-use Rattle.tree_rules.specs.History.{Entry, at_slot}
+use Rattle.tree_rules.specs.History.{Entry, States, at_slot}
 use Rattle.tree_rules.specs.Links.{first_link}
 use Rattle.tree_rules.specs.Chain.{Chain, SourceLink, asks_pr, wants}
 use Rattle.tree_rules.specs.Works.{worked}
-use Rattle.tree_rules.specs.Replies.{test_number}
+use Rattle.tree_rules.specs.Replies.{chain_of, refusal, test_number}
 use Rattle.tree_rules.specs.Fits.{done, refused, found_by, status_bytes}
+
+-- the chain of an entry's call in the states in which the call finds it, and the refusal of the table, if there is one
+abbrev pub chain_in : Tree → States → Entry → Chain
+chain_in p s e = chain_of p s e.call e.string
+
+abbrev pub refusal_in : Tree → States → Entry → Option Reply
+refusal_in p s e = refusal p e.call e.string (chain_in p s e)
 
 -- a code of the table of refusals, which come before any sample is read
 pub record IsOfTable (code : ℕ) : Type 0 where

@@ -15,7 +15,7 @@ ghost use Rattle.tree_rules.specs.Leaves.{IsCleared, IsSeeded, LeavesSource};
 ghost use Rattle.tree_rules.specs.Replies.{chain_of, is_running, refusal, seeds_or_gives};
 ghost use Rattle.tree_rules.specs.Fits.{Fits, Legal};
 ghost use Rattle.tree_rules.specs.Served.{Served};
-ghost use Rattle.tree_rules.specs.Causes.{IsOfTable, IsCaused, HasEnough, IsDone, IsDrawnDone, blocks_left, bytes_of};
+ghost use Rattle.tree_rules.specs.Causes.{chain_in, refusal_in, IsOfTable, IsCaused, HasEnough, IsDone, IsDrawnDone, blocks_left, bytes_of};
 ghost use Rattle.tree_rules.specs.Free.{EndAtRbg1, IsFree};
 
 use entropy_source::{draws_end_by_their_reads, starts_end_by_their_reads};
@@ -24,7 +24,7 @@ use entropy_source::{draws_end_by_their_reads, starts_end_by_their_reads};
 /// codes, 1 to 11.
 pub fn refusals_come_by_the_table()
     ensures exact { (p : Tree) (s : States) (e : Entry) (r : Reply) → Fits p s e →
-        (refusal p e.call e.string (chain_of p s e.call e.string) ≡ Some r ↔ ((e.reply ≡ r) × IsOfTable r.code)) }
+        (refusal_in p s e ≡ Some r ↔ ((e.reply ≡ r) × IsOfTable r.code)) }
     ensures bytes { (p : Tree) (c : Call) (string : List ℕ) (ch : Chain) (r : Reply) → refusal p c string ch ≡ Some r → r.len ≡ 0 }
 {}
 
@@ -38,10 +38,10 @@ pub fn refused_calls_are_served()
 /// SourceFault exactly where a read failed, HealthFailed exactly at a first alarm among the samples read, WantOfEntropy exactly where a
 /// read gave none, and Done where there is none of these. The tests of a source that runs keep something.
 pub fn replies_have_causes()
-    ensures alone { (p : Tree) (s : States) (e : Entry) → Fits p s e → refusal p e.call e.string (chain_of p s e.call e.string) ≡ None →
-        (chain_of p s e.call e.string).source ≡ None → e.reply.code ≡ 0 }
+    ensures alone { (p : Tree) (s : States) (e : Entry) → Fits p s e → refusal_in p s e ≡ None →
+        (chain_in p s e).source ≡ None → e.reply.code ≡ 0 }
     ensures source { (least : ℕ) (p : Tree) (s : States) (e : Entry) (t : SourceLink) → IsPlanned least p → Fits p s e →
-        refusal p e.call e.string (chain_of p s e.call e.string) ≡ None → (chain_of p s e.call e.string).source ≡ Some t →
+        refusal_in p s e ≡ None → (chain_in p s e).source ≡ Some t →
         (is_running t.state.mode ≡ true → IsSome t.state.tail) →
         IsCaused e.call t (at_slot t.slot e.acts) (source_after_all t.row t.state (at_slot t.slot e.acts)) e.reply }
 {
@@ -56,11 +56,11 @@ pub fn replies_leave()
     ensures len { (p : Tree) (s : States) (e : Entry) → Fits p s e → e.reply.len ≡ length e.bytes }
     ensures bytes { (p : Tree) (s : States) (e : Entry) → Fits p s e → e.reply.code ≢ 0 → e.bytes ≡ [] }
     ensures refused { (p : Tree) (s : States) (e : Entry) (r : Reply) → Fits p s e →
-        refusal p e.call e.string (chain_of p s e.call e.string) ≡ Some r → (k : ℕ) (x : SlotState) → after p k x e ≡ x }
+        refusal_in p s e ≡ Some r → (k : ℕ) (x : SlotState) → after p k x e ≡ x }
     ensures others { (p : Tree) (s : States) (e : Entry) → Fits p s e → e.reply.code ≢ 0 → (k : ℕ) →
-        has (slots_of_source (chain_of p s e.call e.string).source) k ≡ false → (x : SlotState) → after p k x e ≡ x }
+        has (slots_of_source (chain_in p s e).source) k ≡ false → (x : SlotState) → after p k x e ≡ x }
     ensures source { (p : Tree) (s : States) (e : Entry) (t : SourceLink) → Fits p s e →
-        refusal p e.call e.string (chain_of p s e.call e.string) ≡ None → (chain_of p s e.call e.string).source ≡ Some t →
+        refusal_in p s e ≡ None → (chain_in p s e).source ≡ Some t →
         LeavesSource e.call t.state (source_after_all t.row t.state (at_slot t.slot e.acts)) e.reply }
     ensures seeded { (p : Tree) (s : States) (e : Entry) (how : How) → Fits p s e → task_of e.call ≡ Seeds how → e.reply.code ≡ 0 →
         (x : NodeState) → IsSeeded (node_in (after p (named e.call) (NodeIs x) e)) }
@@ -69,8 +69,8 @@ pub fn replies_leave()
     ensures status { (p : Tree) (s : States) (e : Entry) (n : ℕ) → Fits p s e → e.call ≡ Status n → (k : ℕ) (x : SlotState) → after p k x e ≡ x }
 {}
 
-/// No row of the table of refusals stands exactly where the call may be made in a caller's words, by its whole chain.
-pub fn calls_are_free_where_they_may_be_made()
+/// A call is refused by no row of the table exactly where it is free in a caller's words, by its whole chain.
+pub fn free_calls_are_not_refused()
     ensures exact { (p : Tree) (s : States) (c : Call) (string : List ℕ) →
         (refusal p c string (chain_of p s c string) ≡ None ↔ IsFree p c string (whole_chain p s c)) }
     ensures whole { (p : Tree) (s : States) (c : Call) (string : List ℕ) → refusal p c string (chain_of p s c string) ≡ None →
@@ -82,26 +82,26 @@ pub fn rbg1s_end_their_chains()
     ensures { (least : ℕ) (p : Tree) (s : States) (c : Call) → IsPlanned least p → EndAtRbg1 (whole_chain p s c).links }
 {}
 
-/// A call that may be made is Done, with exactly the bytes that its chain and its source's samples say, where it needs no source, or
+/// A free call is Done, with exactly the bytes that its chain and its source's samples say, where it needs no source, or
 /// where its source tells its samples, as many are left as the call takes, there is no alarm among them and its fault count doesn't rise.
-pub fn calls_that_may_be_made_are_done()
-    ensures alone { (p : Tree) (s : States) (e : Entry) → Fits p s e → refusal p e.call e.string (chain_of p s e.call e.string) ≡ None →
-        (chain_of p s e.call e.string).source ≡ None → IsDone (bytes_of e.call e.string (chain_of p s e.call e.string) []) e }
+pub fn free_calls_are_done()
+    ensures alone { (p : Tree) (s : States) (e : Entry) → Fits p s e → refusal_in p s e ≡ None →
+        (chain_in p s e).source ≡ None → IsDone (bytes_of e.call e.string (chain_in p s e) []) e }
     ensures told { (least : ℕ) (p : Tree) (s : States) (e : Entry) (t : SourceLink) (left : List ℕ) → IsPlanned least p → Fits p s e →
-        refusal p e.call e.string (chain_of p s e.call e.string) ≡ None → (chain_of p s e.call e.string).source ≡ Some t →
+        refusal_in p s e ≡ None → (chain_in p s e).source ≡ Some t →
         (is_running t.state.mode ≡ true → IsSome t.state.tail) →
-        HasEnough e.call t (need e.call (chain_of p s e.call e.string)) left (source_after_all t.row t.state (at_slot t.slot e.acts)) →
-        IsDone (bytes_of e.call e.string (chain_of p s e.call e.string) (blocks_left e.call (chain_of p s e.call e.string) left)) e }
+        HasEnough e.call t (need e.call (chain_in p s e)) left (source_after_all t.row t.state (at_slot t.slot e.acts)) →
+        IsDone (bytes_of e.call e.string (chain_in p s e) (blocks_left e.call (chain_in p s e) left)) e }
 {
     draws_end_by_their_reads();
     starts_end_by_their_reads();
 }
 
 /// A call that draws on its source and is Done has exactly the bytes that come of the blocks drawn.
-pub fn calls_are_done_over_their_blocks()
-    ensures { (p : Tree) (s : States) (e : Entry) (t : SourceLink) → Fits p s e → refusal p e.call e.string (chain_of p s e.call e.string) ≡ None →
-        (chain_of p s e.call e.string).source ≡ Some t → seeds_or_gives e.call ≡ true → e.reply.code ≡ 0 →
-        IsDrawnDone t (chain_of p s e.call e.string) e }
+pub fn done_calls_give_their_blocks()
+    ensures { (p : Tree) (s : States) (e : Entry) (t : SourceLink) → Fits p s e → refusal_in p s e ≡ None →
+        (chain_in p s e).source ≡ Some t → seeds_or_gives e.call ≡ true → e.reply.code ≡ 0 →
+        IsDrawnDone t (chain_in p s e) e }
 {}
 
 /// After a legal history the tests of a source that runs keep something.

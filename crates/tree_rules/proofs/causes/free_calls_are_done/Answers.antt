@@ -1,5 +1,5 @@
 use Rattle.tree_rules.proofs.Complete.{done_alone, done_told}
-use Rattle.tree_rules.proofs.causes.calls_that_may_be_made_are_done.Goals as goal
+use Rattle.tree_rules.proofs.causes.free_calls_are_done.Goals as goal
 
 pub returns-clause-alone : goal.returns-clause-alone
 returns-clause-alone c = done_alone
