@@ -18,7 +18,7 @@ use Rattle.entropy_source.specs.Source.{Began, SourceAct, Started, blocks_for, n
 use Rattle.entropy_source.specs.declared.answers.SourceRefusal.{SourceRefusal}
 use Rattle.tree_config.specs.Planned.{IsPlanned}
 use Rattle.tree_config.specs.Tree.{Tree}
-use Rattle.tree_rules.specs.Causes.{FaultsWhere, HasEnough, IsDone, alarm_of, blocks_told, IsDrawnDone, blocks_by, blocks_left, bytes_of, drawn_by}
+use Rattle.tree_rules.specs.Causes.{FaultsWhere, HasEnough, IsDone, alarm_of, blocks_told, IsDrawnDone, LacksCause, blocks_by, blocks_left, bytes_of, drawn_by}
 use Rattle.tree_rules.specs.Chain.{Chain, SourceLink, asks_pr, need, need_by, wants}
 use Rattle.tree_rules.specs.Fits.{AnswersBy, DrawsAndWorks, Fits, Serves, Starts, at_source, done, found_by, source_reply, start_reply}
 use Rattle.tree_rules.specs.History.{Entry, States, at_slot}
@@ -249,6 +249,16 @@ pub done_alone : (p : Tree) (s : States) (e : Entry) → Fits p s e → (let ch 
     → ch.source ≡ None → IsDone (bytes_of e.call e.string ch []) e)
 done_alone p s e f free is = serves_alone (chain_of p s e.call e.string) e e.call is (served p s e f free)
 
+pub done_quiet : DrawsEnd → StartsEnd → (least : ℕ) (p : Tree) (s : States) (e : Entry) (t : SourceLink) → IsPlanned least p → Fits p s e
+    → (let ch = chain_of p s e.call e.string in refusal p e.call e.string ch ≡ None → ch.source ≡ Some t
+    → (is_running t.state.mode ≡ true → IsSome t.state.tail)
+    → LacksCause e.call t (at_slot t.slot e.acts) (source_after_all t.row t.state (at_slot t.slot e.acts)) → e.reply.code ≡ 0)
+done_quiet draws_end starts_end least p s e t planned f free is tested h =
+    let acts = at_slot t.slot e.acts in
+    let cause = caused draws_end starts_end least p s e t planned f free is tested in
+    let failed = never_failed t.number t.state.faults (source_after_all t.row t.state acts).faults (has_failed acts) e.reply cause.fault h.kept in
+    cause.done failed h.quiet h.some
+
 pub done_told : DrawsEnd → StartsEnd → (least : ℕ) (p : Tree) (s : States) (e : Entry) (t : SourceLink) (left : List ℕ) → IsPlanned least p
     → Fits p s e → (let ch = chain_of p s e.call e.string in refusal p e.call e.string ch ≡ None → ch.source ≡ Some t
     → (is_running t.state.mode ≡ true → IsSome t.state.tail)
@@ -258,9 +268,9 @@ done_told draws_end starts_end least p s e t left planned f free is tested h =
     let ch = chain_of p s e.call e.string in
     let acts = at_slot t.slot e.acts in
     let w = served p s e f free in
-    let cause = caused draws_end starts_end least p s e t planned f free is tested in
     let front = serves_front ch e t left e.call is h.told w in
     let more = front_of (need e.call ch) left acts front in
     let quiet = front_quiet e.call t (samples_of acts) more.0 (ap (alarm_of e.call t) (sym more.1) ∙ h.quiet) in
-    let failed = never_failed t.number t.state.faults (source_after_all t.row t.state acts).faults (has_failed acts) e.reply cause.fault h.kept in
-    serves_done ch e t left e.call refl is h.told w (cause.done failed quiet (gave_some (need e.call ch) left acts front h.enough))
+    let some = gave_some (need e.call ch) left acts front h.enough in
+    serves_done ch e t left e.call refl is h.told w
+    (done_quiet draws_end starts_end least p s e t planned f free is tested (record { some = some; quiet = quiet; kept = h.kept }))

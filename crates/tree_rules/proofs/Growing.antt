@@ -1,5 +1,5 @@
 -- What an entry and a history raise the counts of a node by.
-use Rattle.std.proofs.Common.{◌≡◌, ◌++◌, ◌∷◌, ◌+◌, ◌*◌, ◌≤◌, ◌^◌, ℕ, List, [], suc, Bool, true, false, length, map, refl, sym, ap, subst, arith, length-append, mul-suc}
+use Rattle.std.proofs.Common.{◌≡◌, ◌∙◌, ◌++◌, ◌∷◌, ◌+◌, ◌*◌, ◌≤◌, ◌^◌, ℕ, List, [], suc, Bool, true, false, length, map, refl, sym, ap, subst, arith, length-append, mul-suc}
 use Rattle.std.proofs.lemmas.List.{length-map}
 use Rattle.std.proofs.lemmas.List.FromFn.{length-range_with_len}
 use Rattle.std.specs.List.{range_with_len}
@@ -19,6 +19,7 @@ use Rattle.tree_rules.specs.History.{Act, AtNode, AtSource, Entry, NodeIs, Openi
 use Rattle.tree_rules.specs.Links.{Gives, Link, Seeds}
 use Rattle.tree_rules.specs.Openings.{IsHistory, by_depth, depth, opening_calls, states_behind}
 use Rattle.tree_rules.specs.Replies.{chain_of, refusal}
+use Rattle.tree_rules.specs.Served.{Served, entry_of}
 use Rattle.tree_rules.specs.Slots.{node_row, source_number, source_row}
 use Rattle.tree_rules.specs.Works.{worked}
 use Rattle.tree_rules.specs.declared.call.Call.{Call}
@@ -128,6 +129,13 @@ raised least p s e plan f k x n few =
     let (y, is, up) = raised_entry least p s e plan f k x in
     let a = up.seeds_high in let b = up.gives_high in let u = few.seeds in let v = few.gives in
     subst (HasCounts (n + 256)) (sym is) (record { seeds = omega (arith, a, u); gives = omega (arith, b, v) })
+
+pub raised_served : (least : ℕ) (p : Tree) (old new : States) (c : Call) (string : List ℕ) (reply : Reply) (bytes : List ℕ) → IsPlanned least p
+    → Served p old new c string reply bytes → (k : ℕ) (x : NodeState) → old k ≡ NodeIs x → (y : NodeState) × (new k ≡ NodeIs y) × IsRaised 256 x y
+raised_served least p old new c string reply bytes plan served k x is =
+    let e = entry_of p old c string reply bytes served.acts 0 in
+    let (y, at, up) = raised_entry least p old e plan (served.fits 0) k x in
+    (y, served.leaves k ∙ (ap (λ z. after p k z e) is ∙ at), up)
 
 stays_source : (p : Tree) (k : ℕ) (x : SourceState) (acts : List SlotAct) (n : ℕ) → HasCounts n (slot_after_all p k (SourceIs x) acts)
 stays_source p k x [] n = tt

@@ -69,6 +69,12 @@ abbrev pub blocks_told : SourceRow → ℕ → List ℕ → List ℕ
 blocks_told row zero left = []
 blocks_told row (suc n) left = conditioned row.cond (take (need_of_block row) left) ++ blocks_told row n (drop (need_of_block row) left)
 
+-- no read of the call gave none, no sample that it read is an alarm, and the fault count didn't rise
+pub record LacksCause (c : Call) (t : SourceLink) (acts : List SourceAct) (now : SourceState) : Type 0 where
+  pub some : gave_none acts ≡ false
+  pub quiet : alarm_of c t (samples_of acts) ≡ None
+  pub kept : ¬ Rose t.state.faults now.faults
+
 -- Nothing keeps the source of a call from serving it: it tells its samples, as many are left as the call takes, there is no first alarm
 -- among these, and its fault count doesn't rise.
 pub record HasEnough (c : Call) (t : SourceLink) (samples : ℕ) (left : List ℕ) (now : SourceState) : Type 0 where

@@ -15,7 +15,7 @@ ghost use Rattle.tree_rules.specs.Leaves.{IsCleared, IsSeeded, LeavesSource};
 ghost use Rattle.tree_rules.specs.Replies.{chain_of, is_running, refusal, seeds_or_gives};
 ghost use Rattle.tree_rules.specs.Fits.{Fits, Legal};
 ghost use Rattle.tree_rules.specs.Served.{Served};
-ghost use Rattle.tree_rules.specs.Causes.{chain_in, refusal_in, IsOfTable, IsCaused, HasEnough, IsDone, IsDrawnDone, blocks_left, bytes_of};
+ghost use Rattle.tree_rules.specs.Causes.{chain_in, refusal_in, IsOfTable, IsCaused, HasEnough, IsDone, IsDrawnDone, LacksCause, blocks_left, bytes_of};
 ghost use Rattle.tree_rules.specs.Free.{EndAtRbg1, IsFree};
 
 use entropy_source::{draws_end_by_their_reads, starts_end_by_their_reads};
@@ -82,11 +82,15 @@ pub fn rbg1s_end_their_chains()
     ensures { (least : ℕ) (p : Tree) (s : States) (c : Call) → IsPlanned least p → EndAtRbg1 (whole_chain p s c).links }
 {}
 
-/// A free call is Done, with exactly the bytes that its chain and its source's samples say, where it needs no source, or
-/// where its source tells its samples, as many are left as the call takes, there is no alarm among them and its fault count doesn't rise.
+/// A free call is Done where it needs no source. It is Done where no read for it gave none, no sample that it read is an alarm and the
+/// source's fault count doesn't rise. And it is Done, with exactly the bytes that its chain and the samples say, where the source tells
+/// its samples, as many are left as the call takes, none of them is an alarm and the fault count doesn't rise.
 pub fn free_calls_are_done()
     ensures alone { (p : Tree) (s : States) (e : Entry) → Fits p s e → refusal_in p s e ≡ None →
         (chain_in p s e).source ≡ None → IsDone (bytes_of e.call e.string (chain_in p s e) []) e }
+    ensures quiet { (least : ℕ) (p : Tree) (s : States) (e : Entry) (t : SourceLink) → IsPlanned least p → Fits p s e →
+        refusal_in p s e ≡ None → (chain_in p s e).source ≡ Some t → (is_running t.state.mode ≡ true → IsSome t.state.tail) →
+        LacksCause e.call t (at_slot t.slot e.acts) (source_after_all t.row t.state (at_slot t.slot e.acts)) → e.reply.code ≡ 0 }
     ensures told { (least : ℕ) (p : Tree) (s : States) (e : Entry) (t : SourceLink) (left : List ℕ) → IsPlanned least p → Fits p s e →
         refusal_in p s e ≡ None → (chain_in p s e).source ≡ Some t →
         (is_running t.state.mode ≡ true → IsSome t.state.tail) →

@@ -35,11 +35,14 @@ pub fn paths_are_short()
     ensures slots { (least : ℕ) (p : Tree) → IsPlanned least p → slot_count p ≤ 67 }
 {}
 
-/// An entry raises a node's seedings and generates by at most 256 each, so after at most 2^46 entries behind the opening calls they are at
+/// An entry, and so a call that was served, raises a node's seedings and generates by at most 256 each, so after at most 2^46 entries behind the opening calls they are at
 /// most 2^61.
 pub fn counts_are_small()
     ensures entry { (least : ℕ) (p : Tree) (s : States) (e : Entry) → IsPlanned least p → Fits p s e → (k : ℕ) (x : NodeState) →
         (y : NodeState) × (after p k (NodeIs x) e ≡ NodeIs y) × IsRaised 256 x y }
+    ensures served { (least : ℕ) (p : Tree) (old new : States) (c : Call) (string : List ℕ) (reply : Reply) (bytes : List ℕ) → IsPlanned least p →
+        Served p old new c string reply bytes → (k : ℕ) (x : NodeState) → old k ≡ NodeIs x →
+        (y : NodeState) × (new k ≡ NodeIs y) × IsRaised 256 x y }
     ensures history { (f : Opening) (o h : List Entry) → IsHistory f o h → length h ≤ 2 ^ 46 → (k : ℕ) → HasCounts (2 ^ 61) (states_behind f o h k) }
 {}
 
