@@ -7,9 +7,9 @@ use Rattle.health_tests.specs.declared.windows.Alarm.{Alarm}
 use Rattle.rbg_nodes.specs.Node.{Cleared, How, New, Renew, NodeState, Seeded, node_after}
 use Rattle.tree_config.specs.Tree.{Tree, parent_in}
 use Rattle.tree_rules.specs.Chain.{Chain, SourceLink, asks_pr, named, node_chain, task_of, wants, whole_chain}
-use Rattle.tree_rules.specs.Fits.{AnswersBy, DrawsAndWorks, Fits, Serves, at_source, done, found_by, source_reply}
+use Rattle.tree_rules.specs.Fits.{AnswersBy, DrawsAndWorks, Fits, Serves, Starts, at_source, done, found_by, source_reply}
 use Rattle.tree_rules.specs.History.{Act, AtNode, AtSource, Entry, NodeIs, SlotAct, SlotState, States, after, node_in, own, slot_after, slot_after_all}
-use Rattle.tree_rules.specs.Leaves.{IsCleared, IsSeeded}
+use Rattle.tree_rules.specs.Leaves.{HasLen, IsCleared, IsSeeded}
 use Rattle.tree_rules.specs.Links.{Gives, Link, Seeds, asks_parent, first_link, link, links, seeding_len}
 use Rattle.tree_rules.specs.Replies.{chain_of, refusal}
 use Rattle.tree_rules.specs.Slots.{ancestors, node_plan, node_row}
@@ -22,7 +22,7 @@ use Rattle.tree_rules.proofs.Freeing.{chain_is_whole}
 use Rattle.tree_rules.proofs.Leaves.{own-append}
 use Rattle.tree_rules.proofs.Sources.{never_done}
 use Rattle.tree_rules.proofs.Rightness.{slot-append}
-use Rattle.tree_rules.proofs.Staying.{free_done}
+use Rattle.tree_rules.proofs.Staying.{free_done, len_is}
 
 -- a node stays a node
 stays_node : (p : Tree) (k : ℕ) (x : NodeState) (acts : List SlotAct) → (y : NodeState) × (slot_after_all p k (NodeIs x) acts ≡ NodeIs y)
@@ -137,3 +137,37 @@ status_stays p s e n f is k x = ap (λ acts. slot_after_all p k x (own k acts)) 
   by : (o : Option Reply) → MatchOption o (Serves (found_by ch.source) ch e e.call) (λ reply. AnswersBy e [] reply []) → e.acts ≡ []
   by None w = let on : Serves (found_by ch.source) ch e (Status n) = subst (λ c. Serves (found_by ch.source) ch e c) is w in on.acts_are
   by (Some r) w = w.acts_are
+
+-- how many bytes a call that is Done gives
+no_bytes : (p : Tree) (s : States) (e : Entry) (found : List ℕ → List ℕ → Option Alarm) (c : Call) (lens : List ℕ) (source : Option SourceLink)
+    → ((drawn : List (List ℕ)) → (worked (asks_pr c) drawn e.string (node_chain p s c).links).bytes ≡ [])
+    → DrawsAndWorks found c (node_chain p s c).links lens source e → e.reply.code ≡ 0 → length e.bytes ≡ 0
+no_bytes p s e found c lens None none w code = ap (λ z. length {A = ℕ} z) (w.bytes_are ∙ none [])
+no_bytes p s e found c lens (Some t) none (acts, end, drawn, answer) code = by end answer where
+  by : (end : Result (List ℕ) SourceRefusal) → MatchResult end
+      (λ bytes. let w = worked (asks_pr c) (portions t.row lens bytes) e.string (node_chain p s c).links in
+      AnswersBy e (map (at_source t) acts ++ w.acts) (done w.bytes) w.bytes)
+      (λ why. AnswersBy e (map (at_source t) acts) (source_reply t.number why) []) → length e.bytes ≡ 0
+  by (Ok bytes) answer = ap (λ z. length {A = ℕ} z) (answer.bytes_are ∙ none (portions t.row lens bytes))
+  by (Err why) answer = ap (λ z. length {A = ℕ} z) answer.bytes_are
+
+start_bytes : (e : Entry) (source : Option SourceLink) → Starts source e → length e.bytes ≡ 0
+start_bytes e None w = absurd w
+start_bytes e (Some t) (acts, end, start, answer) = ap (λ z. length {A = ℕ} z) answer.bytes_are
+
+serves_len : (p : Tree) (s : States) (e : Entry) (found : List ℕ → List ℕ → Option Alarm) (c : Call) → Serves found (whole_chain p s c) e c
+    → e.reply.code ≡ 0 → HasLen c (length e.bytes)
+serves_len p s e found (Start i) w code = start_bytes e (whole_chain p s (Start i)).source w
+serves_len p s e found (Uninstantiate n) w code = ap (λ z. length {A = ℕ} z) w.bytes_are
+serves_len p s e found (Status n) w code = ap (λ z. length {A = ℕ} z) w.bytes_are
+serves_len p s e found (Generate n x y z) w code = tt
+serves_len p s e found (Instantiate n x) w code =
+    let ch = node_chain p s (Instantiate n x) in no_bytes p s e found (Instantiate n x) (wants (Instantiate n x) ch) ch.source (λ drawn. refl) w code
+serves_len p s e found (Reseed n z) w code =
+    let ch = node_chain p s (Reseed n z) in no_bytes p s e found (Reseed n z) (wants (Reseed n z) ch) ch.source (λ drawn. refl) w code
+
+pub done_len : (p : Tree) (s : States) (e : Entry) → Fits p s e → e.reply.code ≡ 0 → HasLen e.call e.reply.len
+done_len p s e f code =
+    let free = free_done p s e f code in
+    let on = subst (λ (ch : Chain). Serves (found_by ch.source) ch e e.call) (chain_is_whole p s e.call e.string free) (served p s e f free) in
+    subst (λ n. HasLen e.call n) (sym (len_is p s e f)) (serves_len p s e (found_by (whole_chain p s e.call).source) e.call on code)

@@ -1,10 +1,11 @@
 -- What a reply leaves of the call's source and of the node that it names.
 -- This project's own.
-use Rattle.std.specs.Prelude.{◌≡◌, ◌≢◌, [], true, false, None, IfSome}
+use Rattle.std.specs.Prelude.{◌≡◌, ◌≢◌, ℕ, [], true, false, None, IfSome}
 use Rattle.entropy_source.specs.declared.answers.SourceMode.TheVariants as modes
 use Rattle.entropy_source.specs.Source.{SourceState}
 use Rattle.rbg_nodes.specs.Node.{NodeState, no_working}
 use Rattle.tree_rules.specs.declared.call.Call.{Call}
+use Rattle.tree_rules.specs.declared.call.Call.TheVariants.{Generate, Status}
 use Rattle.tree_rules.specs.declared.reply.Reply.{Reply}
 use Rattle.tree_rules.specs.Replies.{is_start, error_index, error_test}
 
@@ -28,3 +29,9 @@ pub record IsCleared (s : NodeState) : Type 0 where
   pub live : s.live ≡ false
   pub counter : s.counter ≡ 0
   pub working : s.working ≡ no_working
+
+-- How many bytes a call that is Done gives, where its kind alone says it: 25 of Status, and none of every call but a Generate.
+abbrev pub HasLen : Call → ℕ → Type 0
+HasLen (Generate n count strength pr) len = Unit {0}
+HasLen (Status n) len = len ≡ 25
+HasLen _ len = len ≡ 0

@@ -11,7 +11,7 @@ ghost use Rattle.tree_rules.specs.Slots.{source_slot};
 ghost use Rattle.tree_rules.specs.History.{Entry, Opening, States, SlotState, NodeIs, node_in, has, after, at_slot, opened, source_in, states_after};
 ghost use Rattle.tree_rules.specs.Chain.{Chain, SourceLink, named, need, slots_of_source, task_of, whole_chain};
 ghost use Rattle.tree_rules.specs.Links.{Seeds};
-ghost use Rattle.tree_rules.specs.Leaves.{IsCleared, IsSeeded, LeavesSource};
+ghost use Rattle.tree_rules.specs.Leaves.{HasLen, IsCleared, IsSeeded, LeavesSource};
 ghost use Rattle.tree_rules.specs.Replies.{chain_of, is_running, refusal, seeds_or_gives};
 ghost use Rattle.tree_rules.specs.Fits.{Fits, Legal};
 ghost use Rattle.tree_rules.specs.Served.{Served};
@@ -54,6 +54,7 @@ pub fn replies_have_causes()
 /// name uninstantiated, or with a reseed counter of 1. The source is left as `LeavesSource` says.
 pub fn replies_leave()
     ensures len { (p : Tree) (s : States) (e : Entry) → Fits p s e → e.reply.len ≡ length e.bytes }
+    ensures given { (p : Tree) (s : States) (e : Entry) → Fits p s e → e.reply.code ≡ 0 → HasLen e.call e.reply.len }
     ensures bytes { (p : Tree) (s : States) (e : Entry) → Fits p s e → e.reply.code ≢ 0 → e.bytes ≡ [] }
     ensures refused { (p : Tree) (s : States) (e : Entry) (r : Reply) → Fits p s e →
         refusal_in p s e ≡ Some r → (k : ℕ) (x : SlotState) → after p k x e ≡ x }

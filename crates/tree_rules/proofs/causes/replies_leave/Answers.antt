@@ -1,10 +1,13 @@
 use Rattle.tree_rules.proofs.Leaving.{source_left}
-use Rattle.tree_rules.proofs.Seeding.{cleared_now, seeded_now, status_stays}
+use Rattle.tree_rules.proofs.Seeding.{cleared_now, done_len, seeded_now, status_stays}
 use Rattle.tree_rules.proofs.Staying.{all_stay, len_is, none_given, others_stay}
 use Rattle.tree_rules.proofs.causes.replies_leave.Goals as goal
 
 pub returns-clause-len : goal.returns-clause-len
 returns-clause-len c = len_is
+
+pub returns-clause-given : goal.returns-clause-given
+returns-clause-given c = done_len
 
 pub returns-clause-bytes : goal.returns-clause-bytes
 returns-clause-bytes c = none_given
