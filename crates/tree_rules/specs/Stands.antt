@@ -33,7 +33,8 @@ IsOf p k (NodeAt v) = IsNodeOf p k v
 IsOf p k (SourceAt v) = IsSourceOf p k v
 
 -- the value is that of a slot whose list is this one: as the plan has it, and in the state that the list tells
-pub record StandsAt {S : Type 0} (told : S → Option (List ℕ)) (faults : S → ℕ) (f : Opening) (o : List Entry) (k : ℕ) (s : List ℕ) (x : SlotView S) : Type 0 where
+pub record StandsAt {S : Type 0} (told : S → Option (List ℕ)) (faults : S → ℕ) (f : Opening) (o : List Entry) (k : ℕ)
+    (s : List ℕ) (x : SlotView S) : Type 0 where
   pub tells : Tells f o k s (view_state told faults x)
   pub is_of : IsOf f.plan k x
 
@@ -51,7 +52,8 @@ pub record IsGiven {S : Type 0} (told : S → Option (List ℕ)) (faults : S →
   pub faults_are : f.faults ≡ map faults samples
 
 -- each node and each source is the plan's, and in its state after the opening calls and these entries
-pub record StandAfter {S : Type 0} (told : S → Option (List ℕ)) (faults : S → ℕ) (f : Opening) (o h : List Entry) (nodes : List NodeView) (sources : List (SourceView S)) : Type 0 where
+pub record StandAfter {S : Type 0} (told : S → Option (List ℕ)) (faults : S → ℕ) (f : Opening) (o h : List Entry)
+    (nodes : List NodeView) (sources : List (SourceView S)) : Type 0 where
   pub node_count : length nodes ≡ length f.plan.nodes
   pub source_count : length sources ≡ length f.plan.sources
   pub nodes_are : (k : ℕ) (v : NodeView) → slice_get nodes k ≡ Some v → (v.row ≡ node_row f.plan k) × (NodeIs v.state ≡ states_behind f o h k)
@@ -59,7 +61,8 @@ pub record StandAfter {S : Type 0} (told : S → Option (List ℕ)) (faults : S 
       → (v.row ≡ source_row f.plan j) × (SourceIs (source_state told faults v) ≡ states_behind f o h (source_slot f.plan j))
 
 -- a tree in parts, as it was opened over a plan, samples and seeds
-pub record OpensAs {S : Type 0} (told : S → Option (List ℕ)) (faults : S → ℕ) (p : Tree) (samples : List S) (seeds : List (List ℕ)) (plan : Tree) (nodes : List NodeView) (sources : List (SourceView S)) : Type 0 where
+pub record OpensAs {S : Type 0} (told : S → Option (List ℕ)) (faults : S → ℕ) (p : Tree) (samples : List S) (seeds : List (List ℕ))
+    (plan : Tree) (nodes : List NodeView) (sources : List (SourceView S)) : Type 0 where
   pub f : Opening
   pub o : List Entry
   pub plan_is : plan ≡ p
