@@ -10,7 +10,7 @@ use Rattle.rbg_bytes.specs.declared.kind.Kind.TheVariants as kinds
 use Rattle.entropy_source.specs.Source.{SourceAct}
 use Rattle.rbg_nodes.specs.declared.node.NodeRow.{NodeRow}
 use Rattle.rbg_nodes.specs.Node.{Cleared, Gave, How, New, NodeState, Renew, Seeded, entropy_len, given_bytes, node_after, seed_len}
-use Rattle.rbg_nodes.specs.Views.{xor_bytes}
+use Rattle.rbg_bytes.specs.Xor.{xor_bytes}
 use Rattle.tree_config.specs.Planned.{IsPlanned}
 use Rattle.tree_config.specs.Tree.{Tree, parent_in}
 use Rattle.tree_rules.specs.Chain.{SourceLink}

@@ -6,7 +6,7 @@ use Rattle.entropy_source.specs.Source.{SourceAct}
 use Rattle.entropy_source.specs.declared.answers.SourceRefusal.{SourceRefusal}
 use Rattle.health_tests.specs.declared.windows.Alarm.{Alarm}
 use Rattle.rbg_nodes.specs.Node.{NodeState, Renew, Seeded, node_after}
-use Rattle.rbg_nodes.specs.Views.{xor_bytes}
+use Rattle.rbg_bytes.specs.Xor.{xor_bytes}
 use Rattle.tree_config.specs.Tree.{Tree}
 use Rattle.tree_rules.specs.Chain.{Chain, SourceLink, asks_pr, slots_of, slots_of_source, wants}
 use Rattle.tree_rules.specs.Fits.{AnswersBy, DrawsAndWorks, Fits, Follows, Serves, Starts, at_source, done, found_by, source_reply}

@@ -4,7 +4,6 @@ use Rattle.std.proofs.Common.{◌≡◌, ◌∷◌, ℕ, [], zero, suc, Bool, tr
 use Rattle.std.specs.Prelude.{Option, Some, None, replicate}
 use Rattle.entropy_source.specs.Source.{opened_source}
 use Rattle.entropy_source.specs.declared.answers.SourceMode.{SourceMode}
-use Rattle.health_tests.specs.Cutoffs.{limits}
 use Rattle.health_tests.specs.declared.windows.Test.TheVariants.{Repetition}
 use Rattle.rbg_nodes.specs.Node.{fresh_node}
 use Rattle.tree_config.specs.Tree.{Tree}
@@ -25,7 +24,7 @@ use Rattle.rbg_bytes.specs.declared.kind.Kind.TheVariants as kinds
 use Rattle.rbg_bytes.specs.declared.cond.Cond.TheVariants as conds
 
 abbrev ramp : SourcePlan
-ramp = record { samples = 114 ∷ 97 ∷ 109 ∷ 112 ∷ []; num = 8; den = 1; cutoffs = limits 4 512 257; startup = 1024; cond = conds.HmacSha256 }
+ramp = record { samples = 114 ∷ 97 ∷ 109 ∷ 112 ∷ []; num = 8; den = 1; cutoffs = record { rct = 4; window = 512; apt = 257 }; startup = 1024; cond = conds.HmacSha256 }
 
 abbrev pair : Tree
 pair = record {

@@ -6,7 +6,7 @@ use Rattle.entropy_source.specs.Source.{SourceAct, need_of}
 use Rattle.entropy_source.specs.declared.answers.SourceRefusal.{SourceRefusal}
 use Rattle.entropy_source.specs.declared.answers.SourceRefusal.TheVariants.{HealthFailed, InError, SourceFault, SourceSpent, WantOfEntropy}
 use Rattle.rbg_nodes.specs.Node.{Cleared, NodeAct, NodeState, Renew, Seeded, node_after}
-use Rattle.rbg_nodes.specs.Views.{xor_bytes}
+use Rattle.rbg_bytes.specs.Xor.{xor_bytes}
 use Rattle.tree_config.specs.Tree.{Tree}
 use Rattle.tree_config.specs.declared.plan.Origin.{Origin}
 use Rattle.tree_config.specs.declared.plan.Origin.TheVariants.{Parent, SeedFile, Source}

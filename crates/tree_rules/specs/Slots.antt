@@ -3,7 +3,6 @@
 use Rattle.std.specs.Prelude.{ℕ, zero, suc, ◌+◌, ◌-◌, List, [], ◌∷◌, length, slice_get, unwrap_or, nat_lt, if◌then◌else◌, Option, Some, None}
 use Rattle.rbg_bytes.specs.declared.kind.Kind.TheVariants as kinds
 use Rattle.rbg_bytes.specs.declared.cond.Cond.TheVariants as conds
-use Rattle.health_tests.specs.Cutoffs.{limits}
 use Rattle.tree_config.specs.declared.plan.NodePlan.{NodePlan}
 use Rattle.tree_config.specs.declared.plan.SourcePlan.{SourcePlan}
 use Rattle.tree_config.specs.declared.plan.NodeKind.TheVariants.{Rbg1}
@@ -19,7 +18,7 @@ abbrev pub no_node : NodePlan
 no_node = record { kind = Rbg1; drbg = kinds.HmacSha256; interval = 1; origin = SeedFile [] }
 
 abbrev pub no_source : SourcePlan
-no_source = record { samples = []; num = 8; den = 1; cutoffs = limits 2 512 2; startup = 1024; cond = conds.HmacSha256 }
+no_source = record { samples = []; num = 8; den = 1; cutoffs = record { rct = 2; window = 512; apt = 2 }; startup = 1024; cond = conds.HmacSha256 }
 
 -- the plan of node n, and of source j
 abbrev pub node_plan : Tree → ℕ → NodePlan

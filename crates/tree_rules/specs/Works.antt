@@ -4,7 +4,7 @@ use Rattle.std.specs.Prelude.{ℕ, List, [], ◌∷◌, ◌++◌, take, if◌the
 use Rattle.tree_config.specs.declared.plan.Origin.{Origin}
 use Rattle.tree_config.specs.declared.plan.Origin.TheVariants.{SeedFile, Source, Parent}
 use Rattle.rbg_nodes.specs.Node.{How, Renew, NodeAct, Seeded, Gave, NodeState, node_after, given_bytes}
-use Rattle.rbg_nodes.specs.Views.{xor_bytes}
+use Rattle.rbg_bytes.specs.Xor.{xor_bytes}
 use Rattle.tree_rules.specs.History.{Act, AtNode}
 use Rattle.tree_rules.specs.Links.{Task, Seeds, Gives, Rests, Link, is_rs, is_xor, must_seed, seeding_len, chunks}
 
