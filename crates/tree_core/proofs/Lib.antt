@@ -1,3 +1,5 @@
-pub mod Walks
-pub mod Counted
-pub mod Plainly
+pub mod Rows
+pub mod Walking
+pub mod Nexts
+pub mod Single
+pub mod Steps

@@ -1,1 +1,4 @@
-pub mod Plain
+pub mod Names
+pub mod Whole
+pub mod AllHeld
+pub mod AllLaws

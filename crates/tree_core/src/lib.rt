@@ -1,18 +1,20 @@
 //! The tree of generators, used by one caller after the other.
 //!
-//! - `plain`, `reference`: the refusal of a call by plain numbers, as the definition has it, for tests;
-//! - `walk`, `samples`, `table`, `row`: the nodes that a call needs, the samples that it needs, and the table of refusals.
+//! - `table`: the table of refusals;
+//! - `step`, `reach`, `naming`: the walk along a chain, and the next step of a call by what it holds;
+//! - `working`: the work of a call whose chain is held;
+//! - `all`: a tree all of whose nodes and sources are held.
 #![tactic(auto)]
 
-mod plain;
-mod reference;
-mod row;
-mod samples;
+mod all;
+mod naming;
+mod reach;
+mod step;
 mod table;
-#[cfg(test)]
-mod tests;
-mod walk;
+mod working;
 
-pub use plain::{PlainNode, PlainSource};
-pub use reference::refusal;
+pub use naming::next;
+pub use step::Next;
+pub use tree_acts::Holdings;
 pub use tree_rules::{Call, Reply};
+pub use working::work;
