@@ -3,3 +3,9 @@ pub mod Walking
 pub mod Nexts
 pub mod Single
 pub mod Steps
+pub mod Wholes
+pub mod Histories
+pub mod Raising
+pub mod Freshness
+pub mod Callings
+pub mod Opens

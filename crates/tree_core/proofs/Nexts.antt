@@ -1,7 +1,7 @@
 -- The next step of a call: from what is held to all states that agree with it.
-use Rattle.std.proofs.Common.{◌≡◌, ◌≢◌, ◌∙◌, ◌∷◌, ◌++◌, ◌<◌, ◌≤◌, ℕ, List, [], length, map, Bool, true, false, refl, sym, ap, subst, arith, inl, inr}
+use Rattle.std.proofs.Common.{◌≡◌, ◌∙◌, ◌∷◌, ◌++◌, ℕ, List, [], length, Bool, true, false, refl, sym, ap, subst, arith, inl, inr}
 use Rattle.std.proofs.lemmas.Bool.Decides.{nat_tests}
-use Rattle.std.specs.Prelude.{◌&&◌, ◌||◌, ◌==◌, ◌⊎◌, if◌then◌else◌, Option, Some, None, IsSome, slice_get, unwrap_or}
+use Rattle.std.specs.Prelude.{◌&&◌, ◌||◌, ◌==◌, if◌then◌else◌, Option, Some, None, IsSome, slice_get, unwrap_or}
 use Rattle.tree_config.specs.declared.plan.Origin.{Origin}
 use Rattle.tree_config.specs.declared.plan.SourcePlan.{SourcePlan}
 use Rattle.tree_config.specs.Tree.{Tree}
@@ -18,10 +18,10 @@ use Rattle.tree_rules.specs.Slots.{no_source, node_plan, source_row, source_row_
 use Rattle.tree_rules.specs.History.{States, SlotState, has, source_in}
 use Rattle.tree_rules.specs.Links.{Link, last_link, link, no_link, wanted}
 use Rattle.tree_rules.specs.Chain.{Chain, SourceLink, asks_pr, named, need_by, node_chain, slots_of, slots_of_source, source_at, source_of, task_of, wants_of}
-use Rattle.tree_rules.specs.Replies.{chain_by, chain_of, chain_rows, first_reply, is_instantiate, is_start, mode_of, plain_rows, refusal, rows_by, taken_of}
+use Rattle.tree_rules.specs.Replies.{chain_by, chain_rows, first_reply, is_instantiate, is_start, mode_of, plain_rows, refusal, rows_by, taken_of}
 use Rattle.tree_rules.proofs.Leaves.{slots}
 use Rattle.tree_rules.proofs.Sources.{need_is}
-use Rattle.tree_acts.specs.Hold.{Hold, IsHeld, AreHeld, IsOfPlan, states_held}
+use Rattle.tree_acts.specs.Hold.{Hold, IsHeld, AreHeld, IsOfPlan}
 use Rattle.tree_acts.specs.declared.step.Step.{Step}
 use Rattle.tree_acts.specs.Plain.{draws_on, link_of, task_in}
 use Rattle.tree_acts.specs.Plainly.{plain}
@@ -31,7 +31,6 @@ use Rattle.tree_core.specs.Names.{AreStates, IsFirstMissing, IsStep, Names, Name
 use Rattle.tree_core.specs.declared.step.Next.{Next}
 use Rattle.tree_core.specs.declared.step.Next.TheVariants.{Take, Refuse, Ready}
 use Rattle.tree_core.specs.declared.step.Reached.TheVariants.{Missing, End}
-use Rattle.tree_core.specs.declared.step.Reached.{Reached}
 use Rattle.tree_core.proofs.Rows.{behind_none, in_front, need_none, rows_plain}
 use Rattle.tree_core.proofs.Walking.{held_cons}
 use Rattle.tree_acts.specs.Chained.{links_from}
@@ -52,10 +51,10 @@ module _ {V : Type 0} (h : Hold V) where
   or_right true b e = refl
   or_right false b e = e
 
-  held_first : (x : ℕ) (xs : List ℕ) → AreHeld h (x ∷ xs) → IsHeld h x
+  pub held_first : (x : ℕ) (xs : List ℕ) → AreHeld h (x ∷ xs) → IsHeld h x
   held_first x xs a = a x (or_left (x == x) (has xs x) (grind (arith, nat_tests)))
 
-  held_rest : (x : ℕ) (xs : List ℕ) → AreHeld h (x ∷ xs) → AreHeld h xs
+  pub held_rest : (x : ℕ) (xs : List ℕ) → AreHeld h (x ∷ xs) → AreHeld h xs
   held_rest x xs a k i = a k (or_right (x == k) (has xs k) i)
 
   pub missing_behind : (k : ℕ) (xs ys : List ℕ) → AreHeld h xs → IsFirstMissing h k ys → IsFirstMissing h k (xs ++ ys)

@@ -1,6 +1,6 @@
 -- Calls whose chain is the one slot that they name, and calls that the table refuses.
-use Rattle.std.proofs.Common.{◌≡◌, ◌∙◌, ◌∷◌, ◌++◌, ◌+◌, ◌<◌, ◌≤◌, ◌^◌, ℕ, List, [], length, map, Bool, true, false, refl, sym, ap, subst, arith, inl, inr}
-use Rattle.std.specs.Prelude.{Option, Some, None, IsSome, Result, Ok, Err, MatchOption, nat_le, nat_lt}
+use Rattle.std.proofs.Common.{◌≡◌, ◌∷◌, ◌++◌, ◌+◌, ◌<◌, ◌≤◌, ◌^◌, ℕ, List, [], length, map, true, false, refl, sym, ap, subst, arith}
+use Rattle.std.specs.Prelude.{Option, Some, None, IsSome, MatchOption, nat_le, nat_lt}
 use Rattle.std.proofs.lemmas.Bool.Decides.{nat_tests}
 use Rattle.tree_config.specs.Tree.{Tree}
 use Rattle.entropy_source.specs.declared.answers.SourceRefusal.{SourceRefusal}
@@ -13,13 +13,12 @@ use Rattle.tree_rules.specs.Slots.{source_row, source_slot}
 use Rattle.tree_rules.specs.History.{Act, AtNode, States, has, node_in, own, slot_after_all, source_in}
 use Rattle.tree_rules.specs.Chain.{Chain, named, slots_of, source_at}
 use Rattle.tree_rules.specs.Replies.{chain_by, chain_of, chain_rows, first_reply, plain_rows, refusal, there_are}
-use Rattle.tree_rules.specs.Fits.{AnswersBy, Serves, at_source, done, found_by, source_reply, start_reply, status_bytes}
+use Rattle.tree_rules.specs.Fits.{AnswersBy, Serves, at_source, done, found_by, start_reply, status_bytes}
 use Rattle.tree_rules.specs.Served.{Served, entry_of}
 use Rattle.tree_rules.proofs.Leaves.{none_before}
 use Rattle.tree_rules.proofs.Near.{has_first}
 use Rattle.tree_rules.proofs.Sources.{NoneStands, none_stands}
-use Rattle.tree_acts.specs.Hold.{Hold, AreHeld, IsHeld, IsOfPlan, states_held, source_held}
-use Rattle.tree_acts.specs.Did.{Did}
+use Rattle.tree_acts.specs.Hold.{Hold, AreHeld, IsOfPlan, states_held, source_held}
 use Rattle.tree_acts.specs.Drew.{Started, start_end}
 use Rattle.tree_acts.proofs.Rising.{node_there}
 use Rattle.tree_core.proofs.Nexts.{source_held_there}

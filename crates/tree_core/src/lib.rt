@@ -3,17 +3,24 @@
 //! - `table`: the table of refusals;
 //! - `step`, `reach`, `naming`: the walk along a chain, and the next step of a call by what it holds;
 //! - `working`: the work of a call whose chain is held;
-//! - `all`: a tree all of whose nodes and sources are held.
+//! - `all`, `answer`: a tree all of whose nodes and sources are held, and one call over it.
 #![tactic(auto)]
 
 mod all;
+mod answer;
+mod fresh;
 mod naming;
+mod opening;
 mod reach;
+mod refusal;
+mod solo;
 mod step;
 mod table;
 mod working;
 
 pub use naming::next;
+pub use refusal::OpenRefusal;
+pub use solo::{SoloTree, SourceCounts, TreeParts};
 pub use step::Next;
 pub use tree_acts::Holdings;
 pub use tree_rules::{Call, Reply};

@@ -10,6 +10,7 @@ ghost use Rattle.tree_rules.specs.Served.{Served};
 ghost use Rattle.tree_acts.specs.Hold.{IsOfPlan, AreHeld, FewCounts, states_held};
 ghost use Rattle.tree_acts.specs.Kept.{SameRows};
 ghost use Rattle.tree_acts.specs.Wiped.{IsWipedBehind};
+ghost use Rattle.tree_core.specs.Raised.{AreRaised};
 
 use entropy_source::EntropySource;
 use rbg_bytes::{put_at, put_front};
@@ -110,7 +111,8 @@ fn status_work<S: Samples, H: Holdings<EntropySource<S>>>(
 }
 
 /// Makes a call whose chain is held and that no row of the table of refusals refuses, and answers it. The reply's bytes are those at
-/// the front of `out`, which has 65,536 bytes or more; behind them each byte is what it was, or 0.
+/// the front of `out`, which has 65,536 bytes or more; behind them each byte is what it was, or 0. No node is seeded, or gives, more than
+/// 256 times.
 pub fn work<S: Samples, H: Holdings<EntropySource<S>>>(
     plan: &TreePlan,
     hold: &mut H,
@@ -126,8 +128,10 @@ pub fn work<S: Samples, H: Holdings<EntropySource<S>>>(
     ensures served { Served plan.now (states_held S.told S.faults (H.what hold.old)) (states_held S.told S.faults (H.what hold.new)) call.now input.now
         result (take result.len out.new) }
     ensures rows { SameRows (H.what hold.old) (H.what hold.new) }
+    ensures counts { AreRaised (H.what hold.old) (H.what hold.new) }
     ensures behind { IsWipedBehind result.len out.old out.new }
 {
+    let _range = plan.nodes();
     match *call {
         Call::Start { source } => start_work(plan, hold, source, input),
         Call::Uninstantiate { node } => clear_work(plan, hold, node, input),

@@ -1,8 +1,6 @@
-use Rattle.std.proofs.Common.{◌≡◌, ◌<◌, ◌∙◌, ℕ, Bool, true, false, length, ap, subst, sym, refl}
+use Rattle.std.proofs.Common.{◌≡◌, ◌<◌, ◌∙◌, Bool, true, false, length, ap, subst, sym, refl}
 use Rattle.std.specs.Prelude.{◌&&◌}
-use Rattle.tree_rules.specs.Replies.{is_instantiate, rows_by}
-use Rattle.tree_rules.specs.Chain.{source_of}
-use Rattle.tree_rules.specs.Links.{link}
+use Rattle.tree_rules.specs.Replies.{is_instantiate}
 use Rattle.tree_acts.specs.declared.step.Asked.{Asked}
 use Rattle.tree_acts.specs.Chained.{links_from}
 use Rattle.tree_acts.specs.Plain.{task_in}

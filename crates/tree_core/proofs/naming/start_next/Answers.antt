@@ -1,10 +1,9 @@
-use Rattle.std.proofs.Common.{◌≡◌, ◌+◌, ◌∙◌, ap, subst, sym}
+use Rattle.std.proofs.Common.{◌≡◌, ◌+◌, ◌∙◌, ap}
 use Rattle.entropy_source.specs.declared.answers.SourceMode.{SourceMode}
 use Rattle.tree_rules.specs.declared.call.Call.TheVariants.{Start}
 use Rattle.tree_rules.specs.Slots.{source_slot}
 use Rattle.tree_rules.specs.Links.{Link, no_link}
 use Rattle.tree_rules.specs.Replies.{rows_by}
-use Rattle.tree_acts.specs.Plain.{link_of}
 use Rattle.tree_core.proofs.Nexts.{start_misses, start_named}
 use Rattle.tree_core.proofs.naming.start_next.Goals as goal
 

@@ -1,4 +1,4 @@
-use Rattle.std.proofs.Common.{◌≡◌, ◌∙◌, sym, subst, ap, []}
+use Rattle.std.proofs.Common.{◌∙◌, sym, subst, ap, []}
 use Rattle.std.specs.Prelude.{Option}
 use Rattle.entropy_source.specs.declared.answers.SourceRefusal.{SourceRefusal}
 use Rattle.tree_rules.specs.declared.call.Call.TheVariants.{Start}

@@ -4,7 +4,6 @@ use Rattle.rbg_nodes.specs.Node.{NodeState}
 use Rattle.rbg_nodes.specs.Views.{counts_of}
 use Rattle.tree_rules.specs.declared.call.Call.TheVariants.{Status}
 use Rattle.tree_rules.specs.declared.reply.Reply.{Reply}
-use Rattle.tree_rules.specs.Fits.{done, status_bytes}
 use Rattle.tree_rules.specs.Served.{Served}
 use Rattle.tree_acts.specs.Hold.{states_held, node_held}
 use Rattle.tree_acts.specs.Wiped.{AreKeptOrZeros, IsWipedBehind}
