@@ -68,12 +68,12 @@ module _ {S : Type 0} (told : S → Option (List ℕ)) (faults : S → ℕ) (p :
   tail_of_running Running (Some t) e h = (t, refl)
   tail_of_running Running None e h = absurd (let f : false ≡ true = h in cc)
 
-  pub drew_one : (h t : Hold (SourceView S)) (j : ℕ) (v w : SourceView S) (n : ℕ) (out : List ℕ) (result : Result Range SourceRefusal)
+  pub drew_one : (reads : S → ℕ → Option (List ℕ) → S → Type 0) (h t : Hold (SourceView S)) (j : ℕ) (v w : SourceView S) (n : ℕ) (out : List ℕ) (result : Result Range SourceRefusal)
       → IsOfPlan p h → h.sources (source_slot p j) ≡ Some v → PutsSource h t (source_slot p j) w → w.row ≡ v.row → IsSource v → v.mode ≡ Running
-      → HasDrawn v.row n out result (source_state told faults v) (source_state told faults w)
+      → HasDrawn told faults reads n out result v w
       → OnOk result ((w.mode ≡ v.mode) × (w.taken ≡ v.taken + need_of v.row (n ∷ [])) × (faults w.samples ≡ faults v.samples))
       → Drew told faults p h t j (n ∷ []) (why_of result) (out ∷ [])
-  drew_one h t j v w n out result plan at puts rows ok running drew after = record {
+  drew_one reads h t j v w n out result plan at puts rows ok running drew after = record {
     acts = drew.acts;
     end = drew.bytes;
     draw = subst (λ row. fam row (source_held told faults h (source_slot p j))) row (subst (λ s. fam v.row s) (sym state) drew.draw);
@@ -99,7 +99,7 @@ module _ {S : Type 0} (told : S → Option (List ℕ)) (faults : S → ℕ) (p :
       by (Some x) e = absurd (let a = (plan.node (source_slot p j) x e).low in omega (arith, a))
 
     answers : (bytes : Result (List ℕ) SourceRefusal) (result : Result Range SourceRefusal)
-        → AnswersDraw (source_state told faults v) (source_state told faults w) n out bytes result
+        → AnswersDraw v.taken w.taken n out bytes result
         → MatchResult bytes (λ all. (why_of result ≡ None) × (out ∷ [] ≡ portions (source_row p j) (n ∷ []) all)) (λ why. why_of result ≡ Some why)
     answers (Ok all) result (e, f) = (ap why_of e, ap (λ z. z ∷ []) f)
     answers (Err why) result e = ap why_of e
@@ -110,13 +110,13 @@ module _ {S : Type 0} (told : S → Option (List ℕ)) (faults : S → ℕ) (p :
     ends (Ok r) e (a, b, c) = (a ∙ running, b)
     ends (Err why) e h = cc
 
-  pub drew_at : (h t : Hold (SourceView S)) (j k : ℕ) (v x w : SourceView S) (n : ℕ) (out : List ℕ) (result : Result Range SourceRefusal) (r : Option SourceRefusal)
+  pub drew_at : (reads : S → ℕ → Option (List ℕ) → S → Type 0) (h t : Hold (SourceView S)) (j k : ℕ) (v x w : SourceView S) (n : ℕ) (out : List ℕ) (result : Result Range SourceRefusal) (r : Option SourceRefusal)
       → k ≡ source_slot p j → IsOfPlan p h → h.sources k ≡ Some v → h.sources k ≡ Some x → PutsSource h t k w → w.row ≡ v.row → IsSource x
       → Runs told faults p h j (need_of (source_row p j) (n ∷ [])) → 0 < n
-      → (0 < n → v.taken + need_of v.row (n ∷ []) ≤ 2 ^ 60 → v.mode ≡ Running → HasDrawn v.row n out result (source_state told faults v) (source_state told faults w))
+      → (0 < n → v.taken + need_of v.row (n ∷ []) ≤ 2 ^ 60 → v.mode ≡ Running → HasDrawn told faults reads n out result v w)
       → OnOk result ((w.mode ≡ v.mode) × (w.taken ≡ v.taken + need_of v.row (n ∷ [])) × (faults w.samples ≡ faults v.samples))
       → why_of result ≡ r → Drew told faults p h t j (n ∷ []) r (out ∷ [])
-  drew_at h t j k v x w n out result r slot plan at also puts rows ok runs some acts after is =
+  drew_at reads h t j k v x w n out result r slot plan at also puts rows ok runs some acts after is =
       let at' : h.sources (source_slot p j) ≡ Some v = subst (λ k. h.sources k ≡ Some v) slot at in
       let puts' : PutsSource h t (source_slot p j) w = subst (λ k. PutsSource h t k w) slot puts in
       let same : x ≡ v = cc in
@@ -128,7 +128,7 @@ module _ {S : Type 0} (told : S → Option (List ℕ)) (faults : S → ℕ) (p :
       subst (λ (s : SourceState). s.taken + need_of v.row (n ∷ []) ≤ 2 ^ 60) state
       (subst (λ r. (source_held told faults h (source_slot p j)).taken + need_of r (n ∷ []) ≤ 2 ^ 60) (sym row) runs.room) in
       subst (λ (r : Option SourceRefusal). Drew told faults p h t j (n ∷ []) r (out ∷ [])) is
-      (drew_one h t j v w n out result plan at' puts' rows ok' running (acts some room running) after)
+      (drew_one reads h t j v w n out result plan at' puts' rows ok' running (acts some room running) after)
 
   state_is : (h : Hold (SourceView S)) (j : ℕ) (v : SourceView S) → IsOfPlan p h → h.sources (source_slot p j) ≡ Some v
       → states_held told faults h (source_slot p j) ≡ SourceIs (source_state told faults v)

@@ -15,12 +15,12 @@ use Rattle.tree_acts.proofs.Doing.{did_source}
 use Rattle.tree_acts.proofs.Drawing.{held_source, row_source}
 
 module _ {S : Type 0} (told : S → Option (List ℕ)) (faults : S → ℕ) (p : Tree) where
-  pub started_at : {T : Type 0} (h t : Hold (SourceView S)) (j k : ℕ) (v w : SourceView S) (result : Result T SourceRefusal) (r : Option SourceRefusal)
+  pub started_at : {T : Type 0} (reads : S → ℕ → Option (List ℕ) → S → Type 0) (h t : Hold (SourceView S)) (j k : ℕ) (v w : SourceView S) (result : Result T SourceRefusal) (r : Option SourceRefusal)
       → k ≡ source_slot p j → IsOfPlan p h → h.sources k ≡ Some v → PutsSource h t k w → w.row ≡ v.row
       → (source_held told faults h (source_slot p j)).taken + (source_row p j).startup ≤ 2 ^ 60
-      → (v.taken + v.row.startup ≤ 2 ^ 60 → HasStarted v.row result (source_state told faults v) (source_state told faults w))
+      → (v.taken + v.row.startup ≤ 2 ^ 60 → HasStarted told faults reads result v w)
       → without_bytes result ≡ start_end r → Started told faults p h t j r
-  started_at {T} h t j k v w result r slot plan at puts rows room acts is =
+  started_at {T} reads h t j k v w result r slot plan at puts rows room acts is =
       let at' : h.sources (source_slot p j) ≡ Some v = subst (λ k. h.sources k ≡ Some v) slot at in
       let puts' : PutsSource h t (source_slot p j) w = subst (λ k. PutsSource h t k w) slot puts in
       let state = held_source told faults p h j v plan at' in

@@ -21,6 +21,7 @@ use Rattle.tree_rules.proofs.Plans.{takes_samples}
 use Rattle.tree_rules.proofs.Quieting.{quiet}
 use Rattle.tree_acts.specs.Hold.{IsHeld}
 use Rattle.tree_core.specs.Opened.{OpenedBy}
+use Rattle.tree_core.specs.Reasons.{HasReason}
 use Rattle.tree_core.specs.Solo.{GoesOn, StandIn, StandAfter}
 use Rattle.tree_core.specs.Whole.{AreOfPlan, all_held, source_behind, states_of}
 use Rattle.tree_core.proofs.Wholes.{behind_at, chain_held}
@@ -102,8 +103,8 @@ module _ {S : Type 0} (told : S → Option (List ℕ)) (faults : S → ℕ) (p :
 -- a history goes on with the entry of a call
 module _ {S : Type 0} (told : S → Option (List ℕ)) (faults : S → ℕ) (f : Opening) (o h : List Entry) (is : IsHistory f o h) (nodes ns : List NodeView) (sources ss : List (SourceView S)) where
   pub goes_on : StandAfter told faults f o h nodes sources → AreOfPlan f.plan nodes sources → AreOfPlan f.plan ns ss → (c : Call) (string : List ℕ) (reply : Reply) (bytes : List ℕ)
-      → Served f.plan (states_of told faults nodes sources) (states_of told faults ns ss) c string reply bytes → GoesOn told faults f o h c string reply bytes ns ss
-  goes_on stand are now c string reply bytes served =
+      → Served f.plan (states_of told faults nodes sources) (states_of told faults ns ss) c string reply bytes → ((e : Entry) → Fits f.plan (states_behind f o h) e → HasReason f.plan (states_behind f o h) e) → GoesOn told faults f o h c string reply bytes ns ss
+  goes_on stand are now c string reply bytes served reason =
       let range = is.opening.planned in let tree = is.opening.tree in
       let e = entry told faults f.plan range tree (states_behind f o h) nodes ns sources ss stand are now c string reply bytes served 1 in
       let fit = fits_in told faults f.plan range tree (states_behind f o h) nodes ns sources ss stand are now c string reply bytes served 1 in
@@ -119,6 +120,7 @@ module _ {S : Type 0} (told : S → Option (List ℕ)) (faults : S → ℕ) (f :
         history = more;
         apart = apart f (o ++ (h ++ e ∷ [])) whole;
         quiet = quiet f (o ++ (h ++ e ∷ [])) (takes_samples 0 f.plan range) whole;
+        reason = reason e fit;
         stand = subst (λ s. StandIn told faults f.plan s ns ss) (sym (states_parts f.plan (states_after f.plan (opened f) o) h (e ∷ [])))
             (stand_now told faults f.plan range tree (states_behind f o h) nodes ns sources ss stand are now c string reply bytes served 1);
       }

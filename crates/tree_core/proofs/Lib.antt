@@ -9,3 +9,4 @@ pub mod Raising
 pub mod Freshness
 pub mod Callings
 pub mod Opens
+pub mod Reasons

@@ -6,3 +6,4 @@ pub mod Solo
 pub mod Fresh
 pub mod Raised
 pub mod Opened
+pub mod Reasons

@@ -11,6 +11,7 @@ use Rattle.tree_rules.specs.History.{Entry, Opening, States, NodeIs, SourceIs, o
 use Rattle.tree_rules.specs.Openings.{IsOpening, IsHistory, states_behind}
 use Rattle.tree_rules.specs.Apart.{Apart}
 use Rattle.tree_rules.specs.Quiet.{Quiet}
+use Rattle.tree_core.specs.Reasons.{HasReason}
 use Rattle.tree_core.specs.declared.refusal.OpenRefusal.{OpenRefusal}
 use Rattle.tree_core.specs.declared.refusal.OpenRefusal.TheVariants.{SeedShort, OutOfMemory}
 
@@ -72,7 +73,7 @@ IsCause p seeds (SeedShort node have need) =
 IsCause p seeds OutOfMemory = Unit {0}
 
 -- a call that was made by caller 1 behind a history: with its entry the history is legal again, uses no sample twice and is quiet after
--- alarms, and the tree stands after it
+-- alarms, the reply has its reason, and the tree stands after it
 pub record GoesOn {S : Type 0} (told : S → Option (List ℕ)) (faults : S → ℕ) (f : Opening) (o h : List Entry) (c : Call) (string : List ℕ) (reply : Reply) (bytes : List ℕ)
     (nodes : List NodeView) (sources : List (SourceView S)) : Type 0 where
   pub entry : Entry
@@ -84,4 +85,5 @@ pub record GoesOn {S : Type 0} (told : S → Option (List ℕ)) (faults : S → 
   pub history : IsHistory f o (h ++ entry ∷ [])
   pub apart : Apart f.plan (o ++ (h ++ entry ∷ []))
   pub quiet : Quiet f.plan (opened f) (o ++ (h ++ entry ∷ []))
+  pub reason : HasReason f.plan (states_behind f o h) entry
   pub stand : StandAfter told faults f o (h ++ entry ∷ []) nodes sources

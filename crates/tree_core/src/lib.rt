@@ -16,6 +16,8 @@ mod refusal;
 mod solo;
 mod step;
 mod table;
+#[cfg(test)]
+mod tests;
 mod working;
 
 pub use naming::next;

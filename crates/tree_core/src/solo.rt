@@ -19,7 +19,10 @@ use sample_source::Samples;
 use std::alloc::Global;
 use std::marker::Model;
 use tree_config::TreePlan;
-use tree_rules::{Call, Reply};
+use tree_rules::{
+    Call, Reply, free_calls_are_done, free_calls_are_not_refused, refusals_come_by_the_table,
+    replies_have_causes, running_sources_are_tested,
+};
 
 /// The samples that were taken from a source since it was opened, and the conditioned blocks made of them.
 #[derive(Clone, Copy, Debug, PartialEq, Eq)]
@@ -106,6 +109,11 @@ impl<S: Samples> SoloTree<S> {
         ensures calls { self.new.calls ≡ self.old.calls + 1 }
         ensures behind { IsWipedBehind result.len out.old out.new }
     {
+        refusals_come_by_the_table();
+        replies_have_causes();
+        free_calls_are_not_refused();
+        free_calls_are_done();
+        running_sources_are_tested();
         let reply = answer(&self.plan, &mut self.all, call, input, out);
         self.calls += 1;
         reply

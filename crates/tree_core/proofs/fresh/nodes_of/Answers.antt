@@ -14,4 +14,4 @@ loop-n-preserved c =
     let seed : seed_in (map (λ s. s.items) seeds) n ≡ c.deref.result.now = seed_of (λ s. s.items) seeds n c.index-seeds-from.result low at ∙ sym c.deref.ensures.value in
     subst (λ (xs : List NodeView). AreFresh c.args.plan.now (map (λ s. s.items) seeds) (n + 1) xs) (sym c.in-Ok-push.ensures.items)
     (one_fresh c.args.plan.now (map (λ s. s.items) seeds) n c.loop-n.nodes.items c.loop-n.invariant c.node.result.now c.node.ensures.value c.deref.result.now seed
-    c.in-Ok-fresh.node c.fresh.result c.in-Ok-fresh.is c.fresh.ensures)
+    c.in-Ok-fresh.node c.fresh.result c.in-Ok-fresh.is c.fresh.ensures.value)

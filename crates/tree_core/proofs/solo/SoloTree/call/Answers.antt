@@ -1,10 +1,12 @@
 use Rattle.std.proofs.Common.{◌≡◌, ◌∙◌, ◌+◌, ℕ, ap, sym, subst, arith}
 use Rattle.std.specs.Prelude.{take}
 use Rattle.tree_config.specs.Tree.{Tree}
+use Rattle.tree_rules.specs.Openings.{states_behind}
 use Rattle.tree_rules.specs.Served.{Served}
 use Rattle.tree_core.specs.Solo.{SoloView, StandAfter}
 use Rattle.tree_core.specs.Whole.{AreAtMost, AreOfPlan, most_after, states_of}
 use Rattle.tree_core.proofs.Histories.{goes_on}
+use Rattle.tree_core.proofs.Reasons.{tested_here}
 use Rattle.tree_core.proofs.Raising.{at_most_more}
 use Rattle.tree_core.proofs.solo.SoloTree.call.Goals as goal
 
@@ -38,3 +40,12 @@ returns-clause-history g c = λ f o h is plan stand.
     c.args.call.now c.args.input.now c.answer-reply.result (take c.answer-reply.result.len c.answer-reply.new.out)
     (subst (λ (p : Tree). Served p (states_of told faults nodes sources) (states_of told faults ns ss) c.args.call.now c.args.input.now c.answer-reply.result (take c.answer-reply.result.len c.answer-reply.new.out))
     (sym same) c.answer-reply.ensures.served)
+    (λ e fit.
+    let s = states_behind f o h in let range = is.opening.planned in record {
+      table = λ r. c.refusals_come_by_the_table.ensures.exact f.plan s e r fit;
+      free = c.free_calls_are_not_refused.ensures.exact f.plan s e.call e.string;
+      alone = c.free_calls_are_done.ensures.alone f.plan s e fit;
+      caused = λ t none on. c.replies_have_causes.ensures.source 0 f.plan s e t range fit none on (tested_here f o h e t is on c.running_sources_are_tested.ensures);
+      quiet = λ t none on lacks. c.free_calls_are_done.ensures.quiet 0 f.plan s e t range fit none on (tested_here f o h e t is on c.running_sources_are_tested.ensures) lacks;
+      told = λ t left none on enough. c.free_calls_are_done.ensures.told 0 f.plan s e t left range fit none on (tested_here f o h e t is on c.running_sources_are_tested.ensures) enough;
+    })
