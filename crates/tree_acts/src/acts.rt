@@ -14,7 +14,7 @@ use sample_source::Samples;
 use tree_config::TreePlan;
 
 // Instantiates node n from drawn material.
-pub fn seed_at<S: Samples, H: Holdings<EntropySource<S>>>(
+pub(crate) fn seed_at<S: Samples, H: Holdings<EntropySource<S>>>(
     plan: &TreePlan,
     hold: &mut H,
     n: u16,
@@ -35,7 +35,7 @@ pub fn seed_at<S: Samples, H: Holdings<EntropySource<S>>>(
 }
 
 // Reseeds node n.
-pub fn reseed_at<S: Samples, H: Holdings<EntropySource<S>>>(
+pub(crate) fn reseed_at<S: Samples, H: Holdings<EntropySource<S>>>(
     plan: &TreePlan,
     hold: &mut H,
     n: u16,
@@ -56,7 +56,7 @@ pub fn reseed_at<S: Samples, H: Holdings<EntropySource<S>>>(
 }
 
 // Fills `out` by one generate of node n.
-pub fn give_at<S: Samples, H: Holdings<EntropySource<S>>>(
+pub(crate) fn give_at<S: Samples, H: Holdings<EntropySource<S>>>(
     plan: &TreePlan,
     hold: &mut H,
     n: u16,
@@ -79,7 +79,7 @@ pub fn give_at<S: Samples, H: Holdings<EntropySource<S>>>(
 }
 
 // Draws on source j, which runs.
-pub fn draw_at<S: Samples, H: Holdings<EntropySource<S>>>(
+pub(crate) fn draw_at<S: Samples, H: Holdings<EntropySource<S>>>(
     plan: &TreePlan,
     hold: &mut H,
     j: u8,
@@ -103,7 +103,7 @@ pub fn draw_at<S: Samples, H: Holdings<EntropySource<S>>>(
 }
 
 // Instantiates node n from the seed that it keeps.
-pub fn seed_own_at<S: Samples, H: Holdings<EntropySource<S>>>(
+pub(crate) fn seed_own_at<S: Samples, H: Holdings<EntropySource<S>>>(
     plan: &TreePlan,
     hold: &mut H,
     n: u16,
@@ -123,7 +123,7 @@ pub fn seed_own_at<S: Samples, H: Holdings<EntropySource<S>>>(
     hold.node_mut(n).seed_own(string);
 }
 
-// Uninstantiates node n.
+/// Uninstantiates node n.
 pub fn clear_at<S: Samples, H: Holdings<EntropySource<S>>>(plan: &TreePlan, hold: &mut H, n: u16)
     requires plan { IsOfPlan plan.now (H.what hold.old) }
     requires there { IsSome ((H.what hold.old).nodes n) }
@@ -133,7 +133,7 @@ pub fn clear_at<S: Samples, H: Holdings<EntropySource<S>>>(plan: &TreePlan, hold
     hold.node_mut(n).clear();
 }
 
-// Starts source j.
+/// Starts source j.
 pub fn start_at<S: Samples, H: Holdings<EntropySource<S>>>(
     plan: &TreePlan,
     hold: &mut H,

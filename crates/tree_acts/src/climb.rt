@@ -18,7 +18,7 @@ use tree_config::TreePlan;
 use tree_rules::Reply;
 
 // The work from node n on: a node that asks its parent is seeded with what the parent gives.
-pub fn climb<S: Samples, H: Holdings<EntropySource<S>>>(
+pub(crate) fn climb<S: Samples, H: Holdings<EntropySource<S>>>(
     plan: &TreePlan,
     hold: &mut H,
     n: u16,

@@ -32,7 +32,7 @@ use sample_source::Samples;
 use tree_config::{NodeKind, TreePlan};
 use tree_rules::Reply;
 
-// Node n as it is held, in plain numbers.
+/// Node n as it is held, in plain numbers.
 pub fn step_at<S: Samples, H: Holdings<EntropySource<S>>>(
     plan: &TreePlan,
     hold: &H,
@@ -65,7 +65,7 @@ pub fn step_at<S: Samples, H: Holdings<EntropySource<S>>>(
     }
 }
 
-// The parent that a node asks, where the walk may go so far.
+/// The parent that a node asks, where the walk may go so far.
 pub fn above(plan: &TreePlan, step: Step, pr: bool, far: u16) -> Option<u16>
     requires planned { step.slot < length plan.now.nodes }
     ensures { MatchOption result ((far ≡ 0) ⊎ (asks_parent pr (link_of step (node_plan plan.now step.slot).origin) ≡ false))
@@ -81,7 +81,7 @@ pub fn above(plan: &TreePlan, step: Step, pr: bool, far: u16) -> Option<u16>
     parent(plan, step.slot)
 }
 
-// The reply to what source j refused.
+/// The reply to what source j refused.
 pub fn source_reply(j: u8, why: SourceRefusal) -> Reply
     ensures { result ≡ source_reply j why }
 {
@@ -113,7 +113,7 @@ fn test_number(test: Test) -> u64
 }
 
 // The work of a node that needs no source: of an RBG1 that is instantiated, or of a node that gives without a seeding.
-pub fn own_work<S: Samples, H: Holdings<EntropySource<S>>>(
+pub(crate) fn own_work<S: Samples, H: Holdings<EntropySource<S>>>(
     plan: &TreePlan,
     hold: &mut H,
     n: u16,
@@ -147,7 +147,7 @@ pub fn own_work<S: Samples, H: Holdings<EntropySource<S>>>(
 }
 
 // One seeding from source j, and the output behind it.
-pub fn seed_work<S: Samples, H: Holdings<EntropySource<S>>>(
+pub(crate) fn seed_work<S: Samples, H: Holdings<EntropySource<S>>>(
     plan: &TreePlan,
     hold: &mut H,
     n: u16,
@@ -183,7 +183,7 @@ pub fn seed_work<S: Samples, H: Holdings<EntropySource<S>>>(
 }
 
 // The chunks of an RBG3(RS).
-pub fn rs_work<S: Samples, H: Holdings<EntropySource<S>>>(
+pub(crate) fn rs_work<S: Samples, H: Holdings<EntropySource<S>>>(
     plan: &TreePlan,
     hold: &mut H,
     n: u16,
@@ -217,7 +217,7 @@ pub fn rs_work<S: Samples, H: Holdings<EntropySource<S>>>(
 }
 
 // An output of an RBG3(XOR).
-pub fn xor_work<S: Samples, H: Holdings<EntropySource<S>>>(
+pub(crate) fn xor_work<S: Samples, H: Holdings<EntropySource<S>>>(
     plan: &TreePlan,
     hold: &mut H,
     n: u16,
@@ -246,7 +246,7 @@ pub fn xor_work<S: Samples, H: Holdings<EntropySource<S>>>(
 }
 
 // The work of a node that draws on source j.
-pub fn source_work<S: Samples, H: Holdings<EntropySource<S>>>(
+pub(crate) fn source_work<S: Samples, H: Holdings<EntropySource<S>>>(
     plan: &TreePlan,
     hold: &mut H,
     n: u16,
@@ -277,7 +277,7 @@ pub fn source_work<S: Samples, H: Holdings<EntropySource<S>>>(
 }
 
 // The work of a node that asks no parent.
-pub fn end_work<S: Samples, H: Holdings<EntropySource<S>>>(
+pub(crate) fn end_work<S: Samples, H: Holdings<EntropySource<S>>>(
     plan: &TreePlan,
     hold: &mut H,
     n: u16,

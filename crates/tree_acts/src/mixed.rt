@@ -1,7 +1,6 @@
 // The outputs of an RBG3(XOR).
 ghost use Rattle.std.specs.Prelude.{◌≡◌, ◌<◌, ◌≤◌, ℕ, List, [], ◌∷◌, IsSome, length, true, false, Some};
 ghost use Rattle.entropy_source.specs.Source.{need_of};
-ghost use Rattle.rbg_nodes.specs.Views.{xor_bytes};
 ghost use Rattle.tree_rules.specs.Slots.{node_row, source_row, source_slot};
 ghost use Rattle.tree_rules.specs.Links.{Gives, is_xor, must_seed};
 ghost use Rattle.tree_rules.specs.Chain.{source_of, source_at};
@@ -17,18 +16,9 @@ use crate::holdings::Holdings;
 use crate::step::Asked;
 use crate::wipe::wipe;
 use entropy_source::{EntropySource, SourceRefusal};
+use rbg_bytes::xor_bytes;
 use sample_source::Samples;
 use tree_config::TreePlan;
-
-// Each byte xor the one at its place.
-fn mix(out: &mut [u8], bytes: &[u8])
-    requires { length bytes.now ≡ length out.old }
-    ensures { out.new ≡ xor_bytes out.old bytes.now }
-{
-    for i in 0..out.len() {
-        out[i] ^= bytes[i];
-    }
-}
 
 // Draws on source j where there are bytes to fill.
 fn draw_some<S: Samples, H: Holdings<EntropySource<S>>>(
@@ -52,7 +42,7 @@ fn draw_some<S: Samples, H: Holdings<EntropySource<S>>>(
 }
 
 // Of a node that needn't be seeded.
-pub fn mix_plain<S: Samples, H: Holdings<EntropySource<S>>>(
+pub(crate) fn mix_plain<S: Samples, H: Holdings<EntropySource<S>>>(
     plan: &TreePlan,
     hold: &mut H,
     n: u16,
@@ -82,12 +72,12 @@ pub fn mix_plain<S: Samples, H: Holdings<EntropySource<S>>>(
         return refused;
     }
     give_at(plan, hold, n, string, out);
-    mix(out, fresh);
+    xor_bytes(out, fresh);
     None
 }
 
 // Of a node that must be seeded first.
-pub fn mix_seeded<S: Samples, H: Holdings<EntropySource<S>>>(
+pub(crate) fn mix_seeded<S: Samples, H: Holdings<EntropySource<S>>>(
     plan: &TreePlan,
     hold: &mut H,
     n: u16,
@@ -128,6 +118,6 @@ pub fn mix_seeded<S: Samples, H: Holdings<EntropySource<S>>>(
     reseed_at(plan, hold, n, drawn, string);
     wipe(&mut material);
     give_at(plan, hold, n, &[], out);
-    mix(out, fresh);
+    xor_bytes(out, fresh);
     None
 }

@@ -16,7 +16,7 @@ use sample_source::Samples;
 use tree_config::TreePlan;
 
 // Node n is seeded with its material for its task, and gives where it is asked to.
-pub fn part_at<S: Samples, H: Holdings<EntropySource<S>>>(
+pub(crate) fn part_at<S: Samples, H: Holdings<EntropySource<S>>>(
     plan: &TreePlan,
     hold: &mut H,
     n: u16,

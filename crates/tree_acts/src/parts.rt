@@ -7,6 +7,7 @@ ghost use Rattle.tree_acts.specs.Plain.{task_in};
 use crate::step::Asked;
 use tree_rules::Call;
 
+/// The node, or for Start the source, that a call names.
 pub fn named(call: Call) -> u16
     ensures { result ≡ named call }
 {
@@ -25,6 +26,7 @@ pub fn named(call: Call) -> u16
     }
 }
 
+/// Whether a call asks prediction resistance.
 pub fn asks_pr(call: Call) -> bool
     ensures { result ≡ asks_pr call }
 {
@@ -40,6 +42,7 @@ pub fn asks_pr(call: Call) -> bool
     }
 }
 
+/// What a call asks of the node that it names.
 pub fn asked(call: Call) -> Asked
     ensures { task_in result ≡ task_of call }
 {
@@ -56,24 +59,28 @@ pub fn asked(call: Call) -> Asked
     }
 }
 
+/// Whether it is an Instantiate.
 pub fn is_instantiate(call: Call) -> bool
     ensures { result ≡ is_instantiate call }
 {
     matches!(call, Call::Instantiate { .. })
 }
 
+/// Whether it is a Reseed.
 pub fn is_reseed(call: Call) -> bool
     ensures { result ≡ is_reseed call }
 {
     matches!(call, Call::Reseed { .. })
 }
 
+/// Whether it is a Start.
 pub fn is_start(call: Call) -> bool
     ensures { result ≡ is_start call }
 {
     matches!(call, Call::Start { .. })
 }
 
+/// Whether it is an Instantiate, a Generate or a Reseed.
 pub fn seeds_or_gives(call: Call) -> bool
     ensures { result ≡ seeds_or_gives call }
 {
@@ -85,6 +92,7 @@ pub fn seeds_or_gives(call: Call) -> bool
     }
 }
 
+/// Whether its node must be instantiated, or about to be: every call but Start and Status.
 pub fn needs_life(call: Call) -> bool
     ensures { result ≡ needs_life call }
 {
@@ -94,6 +102,7 @@ pub fn needs_life(call: Call) -> bool
     }
 }
 
+/// The bytes that it asks.
 pub fn asked_count(call: Call) -> u32
     ensures { result ≡ asked_count call }
 {
@@ -108,6 +117,7 @@ pub fn asked_count(call: Call) -> u32
     }
 }
 
+/// The strength that it asks, in bits.
 pub fn asked_strength(call: Call) -> u16
     ensures { result ≡ asked_strength call }
 {

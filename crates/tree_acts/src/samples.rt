@@ -22,7 +22,7 @@ fn blocks(source: &SourcePlan, bytes: u32) -> u64
 }
 
 impl Step {
-    // The chunks in which an RBG3(RS) gives so many bytes.
+    /// The chunks in which an RBG3(RS) gives so many bytes.
     pub fn chunks(self, len: u32) -> u32
         ensures count { result ≡ max 1 (div_ceil len (entropy_len self.row)) }
         ensures range { (1 ≤ result) × (result ≤ len + 1) }
@@ -30,7 +30,7 @@ impl Step {
         len.div_ceil(self.entropy_len()).max(1)
     }
 
-    // Whether it draws on its source.
+    /// Whether it draws on its source.
     pub fn draws(self, pr: bool) -> bool
         ensures { (o : Origin) → result ≡ are_some (wanted pr (link_of self o)) }
     {
@@ -79,7 +79,7 @@ impl Step {
 }
 
 impl Step {
-    // The samples that it draws on a source that is in range.
+    /// The samples that it draws on a source that is in range.
     pub fn samples(self, source: &SourcePlan, pr: bool) -> u64
         requires planned { IsSource source.now }
         ensures count { (o : Origin) → result ≡ need_of (source_row_of source.now) (wanted pr (link_of self o)) }
@@ -89,7 +89,7 @@ impl Step {
     }
 }
 
-// The number of the source on which the last node draws, if it draws.
+/// The number of the source on which the last node draws, if it draws.
 pub fn source_of(plan: &TreePlan, end: Step, pr: bool) -> Option<u8>
     requires there { end.slot < length plan.now.nodes }
     ensures number { result ≡ draws_on pr (link_of end (node_plan plan.now end.slot).origin) }

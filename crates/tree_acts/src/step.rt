@@ -11,7 +11,7 @@ use crate::plain::PlainNode;
 use rbg_nodes::NodeRow;
 use tree_config::{NodeKind, Origin, TreePlan};
 
-// What a call asks of a node.
+/// What a call asks of a node.
 #[derive(Clone, Copy)]
 pub enum Asked {
     Instantiate,
@@ -20,7 +20,7 @@ pub enum Asked {
     Rest,
 }
 
-// A node as a call finds it, and what is asked of it.
+/// A node as a call finds it, and what is asked of it.
 #[derive(Clone, Copy)]
 pub struct Step {
     pub slot: u16,
@@ -30,7 +30,7 @@ pub struct Step {
 }
 
 impl Step {
-    // Whether it is instantiated, or about to be.
+    /// Whether it is instantiated, or about to be.
     pub fn is_alive(self) -> bool
         ensures { (o : Origin) → result ≡ is_alive (link_of self o) }
     {
@@ -40,14 +40,14 @@ impl Step {
         }
     }
 
-    // Whether its reseed counter is above its interval.
+    /// Whether its reseed counter is above its interval.
     pub fn is_due(self) -> bool
         ensures { result ≡ is_due self.row (node_of self.node) }
     {
         self.node.counter > self.row.interval
     }
 
-    // Whether it must be seeded.
+    /// Whether it must be seeded.
     pub fn must_seed(self, pr: bool) -> bool
         ensures { (o : Origin) → result ≡ must_seed pr (link_of self o) }
     {
@@ -61,14 +61,14 @@ impl Step {
         }
     }
 
-    // Whether its seeding comes from its origin now: it is alive, and must be seeded.
+    /// Whether its seeding comes from its origin now: it is alive, and must be seeded.
     pub fn asks(self, pr: bool) -> bool
         ensures { (o : Origin) → result ≡ (is_alive (link_of self o) && must_seed pr (link_of self o)) }
     {
         self.is_alive() && self.must_seed(pr)
     }
 
-    // The bytes of entropy of its seedings.
+    /// The bytes of entropy of its seedings.
     pub fn entropy_len(self) -> u32
         ensures len { result ≡ entropy_len self.row }
         ensures range { (16 ≤ result) × (result ≤ 32) }
@@ -76,7 +76,7 @@ impl Step {
         u32::from(self.row.drbg.strength()) / 8
     }
 
-    // The bytes that its seeding takes.
+    /// The bytes that its seeding takes.
     pub fn seeding_len(self) -> u32
         ensures len { (o : Origin) → result ≡ seeding_len (link_of self o) }
         ensures range { result ≤ 48 }
@@ -88,7 +88,7 @@ impl Step {
     }
 }
 
-// The parent of node n, which is a node of the plan.
+/// The parent of node n, which is a node of the plan.
 pub fn parent(plan: &TreePlan, n: u16) -> Option<u16>
     requires there { n < length plan.now.nodes }
     ensures parent { result ≡ parent_in (node_plan plan.now n).origin }

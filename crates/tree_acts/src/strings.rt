@@ -17,7 +17,7 @@ use sample_source::Samples;
 use tree_config::TreePlan;
 
 // Draws so many strings of one length from source j, each behind the one before it.
-pub fn draw_strings<S: Samples, H: Holdings<EntropySource<S>>>(
+pub(crate) fn draw_strings<S: Samples, H: Holdings<EntropySource<S>>>(
     plan: &TreePlan,
     hold: &mut H,
     j: u8,
@@ -46,7 +46,7 @@ pub fn draw_strings<S: Samples, H: Holdings<EntropySource<S>>>(
 }
 
 // Before each chunk a reseed with a string of its own, the first one with the additional input, and then a generate.
-pub fn give_chunks<S: Samples, H: Holdings<EntropySource<S>>>(
+pub(crate) fn give_chunks<S: Samples, H: Holdings<EntropySource<S>>>(
     plan: &TreePlan,
     hold: &mut H,
     n: u16,

@@ -42,7 +42,7 @@ fn spare_len(plan: &TreePlan, call: Call) -> usize
     }
 }
 
-// Instantiate, Generate and Reseed.
+/// Instantiate, Generate and Reseed.
 pub fn chain_work<S: Samples, H: Holdings<EntropySource<S>>>(
     plan: &TreePlan,
     hold: &mut H,

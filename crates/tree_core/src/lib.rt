@@ -8,6 +8,8 @@
 
 mod all;
 mod answer;
+#[cfg(test)]
+mod cases;
 mod fresh;
 mod naming;
 mod opening;

@@ -108,6 +108,6 @@ returns g c =
     let given = c.give_at.new.out in
     let is : given ≡ given_bytes (node_row p n) (node_in (s n)) c.args.string.now lo = c.give_at.ensures.bytes ∙ ap (λ (x : SlotState). given_bytes (node_row p n) (node_in x) c.args.string.now lo) still in
     let part = part_plain p pr n task (s n) lo gives c.requires.xor (some_string fresh) c.args.string.now c.requires.must in
-    sw_done told faults p h t1 u pr c.args.string.now c.mix.new.out l j (some_string fresh) drew'
+    sw_done told faults p h t1 u pr c.args.string.now c.xor_bytes.new.out l j (some_string fresh) drew'
     (subst (λ (w : Work). Did told faults p t1 u w.acts) (sym part) (subst (λ z. Did told faults p t1 u (record { slot = n; act = AtNode (Gave c.args.string.now lo z) } ∷ [])) is c.give_at.ensures.did))
-    (c.mix.ensures ∙ (last_plain given fresh ∙ (ap (λ z. xor_bytes z (last_drawn (some_string fresh))) is ∙ ap (λ (w : Work). w.bytes) (sym part))))
+    (c.xor_bytes.ensures ∙ (last_plain given fresh ∙ (ap (λ z. xor_bytes z (last_drawn (some_string fresh))) is ∙ ap (λ (w : Work). w.bytes) (sym part))))

@@ -296,6 +296,6 @@ returns g c =
     let part = part_seeded p pr n task (s n) lo gives c.requires.xor (m ∷ some_string fresh) c.args.string.now origin.0 c.requires.must origin.1 in
     let size : length given ≡ length fresh = (let a = c.give_at.auto.out in let b = c.draw_some-more.auto.out in let f = c.split_at_mut-fresh.ensures.front_len in search rules) in
     let gave = subst (λ z. Did told faults p t3 u (record { slot = n; act = AtNode (Gave [] lo z) } ∷ [])) is c.give_at.ensures.did in
-    sw_done told faults p h t2 u pr c.args.string.now c.mix.new.out l j (m ∷ some_string fresh) drew'
+    sw_done told faults p h t2 u pr c.args.string.now c.xor_bytes.new.out l j (m ∷ some_string fresh) drew'
     (subst (λ (w : Work). Did told faults p t2 u w.acts) (sym part) (did_join told faults p t2 t3 u (record { slot = n; act = AtNode seeded } ∷ []) _ c.reseed_at.ensures gave))
-    (c.mix.ensures ∙ (last_seeded given m fresh size ∙ (ap (λ z. xor_bytes z (last_drawn (m ∷ some_string fresh))) is ∙ ap (λ (w : Work). w.bytes) (sym part))))
+    (c.xor_bytes.ensures ∙ (last_seeded given m fresh size ∙ (ap (λ z. xor_bytes z (last_drawn (m ∷ some_string fresh))) is ∙ ap (λ (w : Work). w.bytes) (sym part))))
