@@ -7,8 +7,9 @@ ghost use Rattle.tree_acts.specs.Hold.{states_held};
 ghost use Rattle.tree_acts.specs.Chained.{links_held, Ready};
 ghost use Rattle.tree_acts.specs.Work.{Worked};
 
-use crate::ends::{above, end_work, step_at};
+use crate::ends::end_work;
 use crate::holdings::Holdings;
+use crate::looks::{above, step_at};
 use crate::part::part_at;
 use crate::step::Asked;
 use crate::wipe::wipe;

@@ -17,7 +17,7 @@ use Rattle.tree_acts.specs.Pieces.{same_lens, pieces}
 use Rattle.tree_acts.proofs.Rising.{plan_still, few_at}
 use Rattle.tree_acts.proofs.Sourced.{drew_still, runs_here, first_here, alive_here, sw_refused, sw_done}
 use Rattle.tree_acts.proofs.Chunking.{none_refused, room_by, rs_wants, rs_part, rs_limit, chunked_same}
-use Rattle.tree_acts.proofs.ends.rs_work.Goals as goal
+use Rattle.tree_acts.proofs.rbg3.rs_work.Goals as goal
 
 pub draw_strings-refused-requires-clause-room : goal.draw_strings-refused-requires-clause-room
 draw_strings-refused-requires-clause-room g c =

@@ -4,7 +4,7 @@ use Rattle.tree_rules.specs.Links.{Link, link, must_seed}
 use Rattle.tree_acts.specs.Plain.{link_of, task_in}
 use Rattle.tree_acts.specs.Hold.{states_held}
 use Rattle.tree_acts.proofs.Ending.{must_plain}
-use Rattle.tree_acts.proofs.ends.xor_work.Goals as goal
+use Rattle.tree_acts.proofs.rbg3.xor_work.Goals as goal
 
 pub mix_seeded-requires-clause-must : goal.mix_seeded-requires-clause-must
 mix_seeded-requires-clause-must g c =
