@@ -1,8 +1,8 @@
 use Rattle.std.proofs.Common.{Bool, true, false, ap, refl, ◌≡◌, ◌∙◌}
 use Rattle.std.specs.Prelude.{◌&&◌, ◌||◌, not, is_none}
-use Rattle.tree_core.specs.Links.{is_rbg1}
-use Rattle.tree_core.specs.Replies.{reply_row, is_reseed, is_instantiate}
-use Rattle.tree_core.specs.Plain.{kept_if}
+use Rattle.tree_rules.specs.Links.{is_rbg1}
+use Rattle.tree_rules.specs.Replies.{reply_row, is_reseed, is_instantiate}
+use Rattle.tree_acts.specs.Plain.{kept_if}
 use Rattle.tree_core.proofs.table.chain_rows.Goals as goal
 
 none_where : (b : Bool) → not b ≡ is_none (kept_if b)

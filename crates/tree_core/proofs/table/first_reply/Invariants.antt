@@ -1,5 +1,5 @@
 use Rattle.std.proofs.Common.{◌≡◌, drop}
-use Rattle.tree_core.specs.Replies.{first_reply}
+use Rattle.tree_rules.specs.Replies.{first_reply}
 use Rattle.tree_core.proofs.table.first_reply.Given as goal
 
 abbrev pub invariant-loop-row : goal.invariant-loop-row

@@ -1,8 +1,8 @@
 use Rattle.std.proofs.Common.{ℕ, Bool, ap, ◌∙◌}
 use Rattle.std.specs.Prelude.{◌&&◌, not}
-use Rattle.tree_core.specs.Links.{is_alive}
-use Rattle.tree_core.specs.Replies.{reply_row, needs_life}
-use Rattle.tree_core.specs.Plain.{link_of}
+use Rattle.tree_rules.specs.Links.{is_alive}
+use Rattle.tree_rules.specs.Replies.{reply_row, needs_life}
+use Rattle.tree_acts.specs.Plain.{link_of}
 use Rattle.tree_core.proofs.table.not_instantiated.Goals as goal
 
 pub returns : goal.returns

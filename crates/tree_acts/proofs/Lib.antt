@@ -1,0 +1,16 @@
+pub mod Counted
+pub mod Doing
+pub mod Over
+pub mod Alone
+pub mod Rising
+pub mod Drawing
+pub mod Free
+pub mod Top
+pub mod Ending
+pub mod Chunking
+pub mod Sourced
+pub mod Bytes
+pub mod Sums
+pub mod Mixing
+pub mod Wiping
+pub mod Starting

@@ -1,0 +1,12 @@
+pub mod Hold
+pub mod Lent
+pub mod Did
+pub mod Chained
+pub mod Work
+pub mod Plain
+pub mod Plainly
+pub mod Drew
+pub mod Kept
+pub mod Ends
+pub mod Pieces
+pub mod Wiped

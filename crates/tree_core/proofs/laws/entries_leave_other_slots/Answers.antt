@@ -1,5 +1,0 @@
-use Rattle.tree_core.proofs.Leaves.{leaves}
-use Rattle.tree_core.proofs.laws.entries_leave_other_slots.Goals as goal
-
-pub returns : goal.returns
-returns c p s e f k h x = leaves p s k e f h x

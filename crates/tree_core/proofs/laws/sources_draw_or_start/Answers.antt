@@ -1,5 +1,0 @@
-use Rattle.tree_core.proofs.Sources.{does}
-use Rattle.tree_core.proofs.laws.sources_draw_or_start.Goals as goal
-
-pub returns : goal.returns
-returns c p s j e f = does p s j e f
