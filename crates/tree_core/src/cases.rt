@@ -4,7 +4,7 @@ mod deep;
 mod every_kind;
 mod faulty;
 
-use crate::tests::{counts, first_other, opened, ramp};
+use crate::tests::runs::{counts, first_other, opened, ramp};
 use sample_source::{Faulty, Recorded};
 use std::test::Fail;
 
