@@ -110,7 +110,7 @@ module _ (w : SlotAct → ℕ) where
       by false = mixed_few (is_xor l.row.kind) given (xor_bytes given.bytes (last_drawn drawn)) (given_few l (must_seed pr l) (material l drawn above) string len)
 
 -- how many chunks there are
-count_lens : (n size count : ℕ) → length (chunk_lens n size count) ≡ n
+pub count_lens : (n size count : ℕ) → length (chunk_lens n size count) ≡ n
 count_lens zero size count = refl
 count_lens (suc n) size count = omega (arith, count_lens n size (count - size))
 

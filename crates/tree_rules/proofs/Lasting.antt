@@ -1,6 +1,6 @@
--- An RBG1 of a chain is its last node, since it has no parent; and an RBG3(RS) has none either.
+-- An RBG1 of a chain is its last node, since a child alone has a parent; and an RBG3 draws on a source.
 use Rattle.std.proofs.Common.{◌≡◌, ◌∷◌, ℕ, List, [], Bool, true, false, length, refl}
-use Rattle.std.specs.Prelude.{◌&&◌, if◌then◌else◌, is_some, Option, Some, None, slice_get, unwrap_or}
+use Rattle.std.specs.Prelude.{◌&&◌, ◌||◌, if◌then◌else◌, is_some, Option, Some, None, slice_get, unwrap_or}
 use Rattle.tree_config.specs.Planned as planned
 use Rattle.tree_config.specs.Planned.{IsPlanned}
 use Rattle.tree_config.specs.Tree.{Tree, parent_in}
@@ -12,7 +12,7 @@ use Rattle.tree_config.specs.declared.plan.Origin.TheVariants.{Parent, SeedFile,
 use Rattle.tree_rules.specs.Chain.{asks_pr, task_of, whole_chain}
 use Rattle.tree_rules.specs.Free.{EndAtRbg1}
 use Rattle.tree_rules.specs.History.{States}
-use Rattle.tree_rules.specs.Links.{Gives, Link, Task, asks_parent, is_alive, is_rbg1, is_rs, link, links, must_seed, seeding_len}
+use Rattle.tree_rules.specs.Links.{Gives, Link, Task, asks_parent, is_alive, is_rbg1, is_rs, is_xor, link, links, must_seed, seeding_len}
 use Rattle.tree_rules.specs.Slots.{lineage, no_node, node_plan, node_row}
 use Rattle.tree_rules.specs.declared.call.Call.{Call}
 use Rattle.tree_rules.specs.declared.call.Call.TheVariants.{Generate, Instantiate, Reseed, Start, Status, Uninstantiate}
@@ -37,6 +37,27 @@ parent_is_childs least p n plan is = by (slice_get p.nodes n) (plan.node n) is w
       → is_some (parent_in (unwrap_or o no_node).origin) ≡ true → (is_rbg1 (unwrap_or o no_node).kind ≡ false) × (is_rs (unwrap_or o no_node).kind ≡ false)
   by None f is = cc
   by (Some x) f is = of_child least (length p.sources) (length p.nodes) x.kind x.origin (f x refl).origin is
+
+-- an RBG3 draws on a source
+of_rbg3 : (least sources nodes : ℕ) (kind : NodeKind) (o : Origin) → (is_rs kind || is_xor kind) ≡ true → planned.Fits least sources nodes kind o
+    → (j : ℕ) × (o ≡ Source j)
+of_rbg3 least sources nodes Rbg3Rs (Source j) is h = (j, refl)
+of_rbg3 least sources nodes Rbg3Rs (SeedFile name) is h = absurd h
+of_rbg3 least sources nodes Rbg3Rs (Parent q) is h = absurd h
+of_rbg3 least sources nodes Rbg3Xor (Source j) is h = (j, refl)
+of_rbg3 least sources nodes Rbg3Xor (SeedFile name) is h = absurd h
+of_rbg3 least sources nodes Rbg3Xor (Parent q) is h = absurd h
+of_rbg3 least sources nodes Rbg1 o is h = cc
+of_rbg3 least sources nodes Rbg2 o is h = cc
+of_rbg3 least sources nodes Child o is h = cc
+
+pub rbg3_draws : (least : ℕ) (p : Tree) (n : ℕ) → IsPlanned least p → (is_rs (node_row p n).kind || is_xor (node_row p n).kind) ≡ true
+    → (j : ℕ) × ((node_plan p n).origin ≡ Source j)
+rbg3_draws least p n plan is = by (slice_get p.nodes n) (plan.node n) is where
+  by : (o : Option NodePlan) → ((x : NodePlan) → o ≡ Some x → planned.IsNode least (length p.sources) (length p.nodes) x)
+      → (is_rs (unwrap_or o no_node).kind || is_xor (unwrap_or o no_node).kind) ≡ true → (j : ℕ) × ((unwrap_or o no_node).origin ≡ Source j)
+  by None f is = cc
+  by (Some x) f is = of_rbg3 least (length p.sources) (length p.nodes) x.kind x.origin is (f x refl).origin
 
 third : (a b c : Bool) → (a && b && c) ≡ true → c ≡ true
 third true true c h = h

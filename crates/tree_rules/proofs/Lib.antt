@@ -29,5 +29,7 @@ pub mod Lasting
 pub mod Counting
 pub mod Growing
 pub mod Going
+pub mod Giving
+pub mod Asked
 mod Rows
 pub mod Depths

@@ -1,11 +1,11 @@
 // Laws on replies: why each one comes. Each is a function without a body of its own, whose contract is the law; no program calls them.
-ghost use Rattle.std.specs.Prelude.{◌≡◌, ◌≢◌, ◌↔◌, ℕ, List, [], length, true, false, IsSome, Some, None};
+ghost use Rattle.std.specs.Prelude.{◌≡◌, ◌≢◌, ◌↔◌, ℕ, List, [], length, Bool, true, false, IsSome, Some, None};
 ghost use Rattle.tree_config.specs.Tree.{Tree};
 ghost use Rattle.tree_config.specs.Planned.{IsPlanned};
 ghost use Rattle.entropy_source.specs.Source.{source_after_all};
 ghost use Rattle.rbg_nodes.specs.Node.{How, NodeState};
 ghost use Rattle.tree_rules.specs.declared.call.Call.{Call};
-ghost use Rattle.tree_rules.specs.declared.call.Call.TheVariants.{Status, Uninstantiate};
+ghost use Rattle.tree_rules.specs.declared.call.Call.TheVariants.{Generate, Status, Uninstantiate};
 ghost use Rattle.tree_rules.specs.declared.reply.Reply.{Reply};
 ghost use Rattle.tree_rules.specs.Slots.{source_slot};
 ghost use Rattle.tree_rules.specs.History.{Entry, Opening, States, SlotState, NodeIs, node_in, has, after, at_slot, opened, source_in, states_after};
@@ -18,7 +18,10 @@ ghost use Rattle.tree_rules.specs.Served.{Served};
 ghost use Rattle.tree_rules.specs.Causes.{chain_in, refusal_in, IsOfTable, IsCaused, HasEnough, IsDone, IsDrawnDone, LacksCause, blocks_left, bytes_of};
 ghost use Rattle.tree_rules.specs.Free.{EndAtRbg1, IsFree};
 
-use entropy_source::{draws_end_by_their_reads, starts_end_by_their_reads};
+use entropy_source::{
+    draws_end_by_their_reads, draws_give_whole_blocks, starts_end_by_their_reads,
+};
+use rbg_nodes::generates_have_their_lengths;
 
 /// A reply of the table of refusals comes exactly where its row is the first that stands, and no other reply has one of the table's
 /// codes, 1 to 11.
@@ -108,6 +111,15 @@ pub fn done_calls_give_their_blocks()
         (chain_in p s e).source ≡ Some t → seeds_or_gives e.call ≡ true → e.reply.code ≡ 0 →
         IsDrawnDone t (chain_in p s e) e }
 {}
+
+/// A Generate that is Done gives as many bytes as it asks for.
+pub fn generates_give_what_is_asked()
+    ensures { (least : ℕ) (p : Tree) (s : States) (e : Entry) (n count strength : ℕ) (pr : Bool) → IsPlanned least p → Fits p s e →
+        e.call ≡ Generate n count strength pr → e.reply.code ≡ 0 → e.reply.len ≡ count }
+{
+    generates_have_their_lengths();
+    draws_give_whole_blocks();
+}
 
 /// After a legal history the tests of a source that runs keep something.
 pub fn running_sources_are_tested()

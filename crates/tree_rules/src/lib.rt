@@ -19,8 +19,8 @@ mod reply;
 pub use call::Call;
 pub use causes::{
     done_calls_give_their_blocks, free_calls_are_done, free_calls_are_not_refused,
-    rbg1s_end_their_chains, refusals_come_by_the_table, refused_calls_are_served,
-    replies_have_causes, replies_leave, running_sources_are_tested,
+    generates_give_what_is_asked, rbg1s_end_their_chains, refusals_come_by_the_table,
+    refused_calls_are_served, replies_have_causes, replies_leave, running_sources_are_tested,
 };
 pub use laws::{
     chains_lie_on_paths, depths_count_paths, entries_leave_other_slots, entries_read_their_chain,
