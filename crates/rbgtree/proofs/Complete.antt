@@ -1,14 +1,26 @@
 -- That the program ends with its work done where nothing stands in its way.
-use Rattle.std.proofs.Common.{◌≡◌, ◌<◌, ◌⊎◌, ℕ, ◌∷◌, List, [], ◌++◌, length, length-append, map, take, drop, refl, sym, ap, ◌∙◌, inl, inr, subst, arith, append-nil}
-use Rattle.std.specs.Prelude.{Option, Some, None, Ok, Err, codes}
+use Rattle.std.proofs.Common.{◌≡◌, ◌≤◌, ◌<◌, ◌⊎◌, ℕ, zero, suc, ◌∷◌, List, [], ◌++◌, length, length-append, map, take, drop, refl, sym, ap, ◌∙◌, inl, inr, subst, arith, append-nil}
+use Rattle.std.specs.Prelude.{Bool, true, false, if◌then◌else◌, nat_lt, slice_get, unwrap_or, Option, Some, None, Ok, Err, codes}
+use Rattle.std.proofs.lemmas.Bool.Decides.{nat_tests}
 use Rattle.std.specs.Io.KnownBytes.{Consumes, IsAtEnd}
 use Rattle.std.proofs.lemmas.List.{take-append-drop, length-map}
 use Rattle.frame_codec.specs.Frames.{Asked, IsScript}
 use Rattle.frame_codec.proofs.RequestLaws.{one-script, script-longer, script-not-bad, bad-more, begins-more}
-use Rattle.hmac_core.specs.declared.hash.Hash.{Hash}
-use Rattle.hmac_drbg.specs.HmacDrbg.{Working}
-use Rattle.tree_config.specs.Tree.{Tree, Plan}
-use Rattle.tree_config.proofs.Once.{plan_once}
+use Rattle.rbg_nodes.specs.declared.node.NodeRow.{NodeRow}
+use Rattle.rbg_nodes.specs.declared.node.SeedShort.{SeedShort as Short}
+use Rattle.rbg_nodes.specs.Node.{New, seed_len}
+use Rattle.rbg_nodes.specs.Views.{row_of, short_by, too_short}
+use Rattle.tree_config.specs.declared.plan.NodeKind.{NodeKind}
+use Rattle.tree_config.specs.declared.plan.NodeKind.TheVariants.{Rbg1, Rbg2, Rbg3Xor, Rbg3Rs, Child}
+use Rattle.tree_config.specs.declared.plan.NodePlan.{NodePlan}
+use Rattle.tree_config.specs.declared.plan.Origin.{Origin}
+use Rattle.tree_config.specs.declared.plan.Origin.TheVariants.{SeedFile, Source, Parent}
+use Rattle.tree_config.specs.Planned.{IsFile, IsPlanned, Fits}
+use Rattle.tree_rules.specs.History.{Entry, Opening}
+use Rattle.tree_rules.specs.Slots.{no_node, node_row}
+use Rattle.tree_core.specs.Solo.{seed_in}
+use Rattle.tree_config.specs.Tree.{Tree, Plan, stock_tree}
+use Rattle.tree_config.proofs.Once.{plan_once, plan_in_range}
 use Rattle.rbgtree.specs.declared.ends.End.{End}
 use Rattle.rbgtree.specs.declared.ends.End.TheVariants as ends
 use Rattle.rbgtree.specs.declared.status.Status.{Status}
@@ -16,12 +28,13 @@ use Rattle.rbgtree.specs.declared.status.Status.TheVariants.{Done, Usage, Config
 use Rattle.rbgtree.specs.Answers.{Answered}
 use Rattle.rbgtree.specs.Files.{Entries, IsWholeFile}
 use Rattle.rbgtree.specs.Check.{HasNoPlan, HasChecked}
-use Rattle.rbgtree.specs.Commands.{IsSeedCommand, IsCheckCommand}
+use Rattle.rbgtree.specs.Commands.{IsSeedCommand, IsAnswerCommand, IsCheckCommand}
 use Rattle.rbgtree.specs.Statuses.{status_of}
 use Rattle.rbgtree.specs.Session.{Session}
-use Rattle.rbgtree.specs.Run.{Outside, Served, RanSeed, RanCheck, Ran, HasStatusCause}
-use Rattle.rbgtree.specs.Complete.{NoneRose, IsToldFile, CanBeServed, CanBePassed, IsComplete}
-use Rattle.rbgtree.proofs.Seeds.{is_file-unique}
+use Rattle.rbgtree.specs.Run.{Outside, Served, HasNoSeeds, IsShort, RanOver, RanPlan, RanSeed, RanAnswer, RanCheck, Ran, HasStatusCause}
+use Rattle.rbgtree.specs.Seeds.{AreSeeds, IsFront, IsSeedOf, file_in, planned_file}
+use Rattle.rbgtree.specs.Complete.{NoneRose, IsToldFile, HasLongFile, CanBeServed, SeedCanBeServed, AnswerCanBeServed, CanBePassed, IsComplete}
+use Rattle.rbgtree.proofs.FileFronts.{is_file-unique}
 
 -- bytes that were taken stand in front of the others
 taken_front : (before now : Option (List ℕ)) (taken script : List ℕ) → before ≡ Some script → Consumes before now taken
@@ -31,22 +44,22 @@ taken_front (Some xs) None taken script is took = absurd took
 taken_front (Some xs) (Some ys) taken script is took = (ys, refl, cc)
 
 -- the end of a session over whole frames, fewer than there may be, in which no count rose
-pub read_whole : (h : Hash) (s : Working) (max : ℕ) (end : End) (before now : Outside) (script : List ℕ) (asked : List Asked)
+pub read_whole : (f : Opening) (o : List Entry) (max : ℕ) (end : End) (before now : Outside) (script : List ℕ) (asked : List Asked)
     → before.left ≡ Some script → IsScript script asked [] → length asked < max → NoneRose before now → HasStatusCause before now (status_of end)
-    → Session h s max end before.left now.left before.out now.out → status_of end ≡ Done
-read_whole h s max (ends.Read frames) before now script asked is whole few calm cause session = refl
-read_whole h s max (ends.ReadFault count) before now script asked is whole few calm cause session = absurd (calm.input cause.0)
-read_whole h s max (ends.WriteFault count) before now script asked is whole few calm cause session = absurd (calm.output cause.0)
-read_whole h s max (ends.Bad offset why) before now script asked is whole few calm cause (taken, text, took, wrote, (rs, es, bad, _, _, _, _)) =
+    → Session f o max end before.left now.left before.out now.out → status_of end ≡ Done
+read_whole f o max (ends.Read frames) before now script asked is whole few calm cause session = refl
+read_whole f o max (ends.ReadFault count) before now script asked is whole few calm cause session = absurd (calm.input cause.0)
+read_whole f o max (ends.WriteFault count) before now script asked is whole few calm cause session = absurd (calm.output cause.0)
+read_whole f o max (ends.Bad offset why) before now script asked is whole few calm cause (taken, text, took, wrote, (rs, es, bad, _, _, _, _)) =
     let (rest, left, all) = taken_front before.left now.left taken script is took in
     absurd (script-not-bad (taken ++ rest) asked rs [] offset why (subst (λ (b : List ℕ). IsScript b asked []) all whole) (bad-more taken rest rs offset why bad))
-read_whole h s max (ends.Cut offset) before now script asked is whole few calm cause (taken, text, took, wrote, (rs, es, part, cut, some, end, _, _, _, _, _)) =
+read_whole f o max (ends.Cut offset) before now script asked is whole few calm cause (taken, text, took, wrote, (rs, es, part, cut, some, end, _, _, _, _, _)) =
     let (rest, left, all) = taken_front before.left now.left taken script is took in
     let none : rest ≡ [] = subst (λ (l : Option (List ℕ)). IsAtEnd l) left end in
     let same : script ≡ taken = all ∙ (ap (λ (r : List ℕ). taken ++ r) none ∙ append-nil taken) in
     let empty = (one-script taken asked rs [] part (subst (λ (b : List ℕ). IsScript b asked []) same whole) cut).1 in
     absurd (omega (arith, some, ap (λ (x : List ℕ). length x) empty))
-read_whole h s max (ends.Quota frames) before now script asked is whole few calm cause (taken, text, took, wrote, (rs, es, begins, (later, calls), _, full, _, _)) =
+read_whole f o max (ends.Quota frames) before now script asked is whole few calm cause (taken, text, took, wrote, (rs, es, begins, (later, calls), _, full, _, _)) =
     let (rest, left, all) = taken_front before.left now.left taken script is took in
     let (n, front) = begins-more taken rest rs begins in
     let parts : take n (taken ++ rest) ++ drop n (taken ++ rest) ≡ script = take-append-drop n (taken ++ rest) ∙ sym all in
@@ -68,28 +81,95 @@ one_file None name a b told whole = absurd told
 one_file (Some entries) name a b told whole = is_file-unique entries name a b told whole
 
 -- how a session that was held ended
-served_done : (name : List ℕ) (words : List (List ℕ)) (before now : Outside) (status : Status) → (end : End) × (status ≡ status_of end) × Served name before now end
-    → HasStatusCause before now status → NoneRose before now → CanBeServed words before → status ≡ Done
-served_done name words before now status (end, is, (seed, len, begins, session)) cause calm can =
-    is ∙ read_whole _ _ 1048576 end before now can.script can.asked can.input can.frames can.few calm (subst (λ (s : Status). HasStatusCause before now s) is cause) session
+served_done : (file : NodePlan → Option (List ℕ)) (p : Tree) (seeds : List (List ℕ)) (before now : Outside) (status : Status) → (end : End) × (status ≡ status_of end) × Served p seeds before now end
+    → HasStatusCause before now status → NoneRose before now → CanBeServed file p before → (status ≡ Done) ⊎ (status ≡ Memory)
+served_done file p seeds before now status (end, is, served) cause calm can =
+    inl (is ∙ read_whole served.f served.o 1048576 end before now can.script can.asked can.input can.frames can.few calm (subst (λ (s : Status). HasStatusCause before now s) is cause) served.session)
 
-seed_done : (words : List (List ℕ)) (name : List ℕ) (before now : Outside) (status : Status) → IsSeedCommand words name → RanSeed name before now status
-    → HasStatusCause before now status → NoneRose before now → CanBeServed words before → (status ≡ Done) ⊎ (status ≡ Memory)
-seed_done words name before now Memory command ran cause calm can = inr refl
-seed_done words name before now (OpenFault count) command ran cause calm can = absurd (calm.world cause.0)
-seed_done words name before now (SeedShort node have need) command (_, bytes, whole, short, _, _, _) cause calm can =
-    let called : can.name ≡ name = let e : words ≡ codes "seed" ∷ can.name ∷ [] = can.command in cc in
-    let same = one_file before.files name can.bytes bytes (subst (λ (n : List ℕ). IsToldFile before.files n can.bytes) called can.file) whole in
-    absurd (omega (arith, short, can.long, ap (λ (x : List ℕ). length x) same))
-seed_done words name before now Done command ran cause calm can = inl (served_done name words before now Done ran cause calm can)
-seed_done words name before now Usage command ran cause calm can = inl (served_done name words before now Usage ran cause calm can)
-seed_done words name before now (Config fault) command ran cause calm can = inl (served_done name words before now (Config fault) ran cause calm can)
-seed_done words name before now (Malformed offset why) command ran cause calm can = inl (served_done name words before now (Malformed offset why) ran cause calm can)
-seed_done words name before now (Cut offset) command ran cause calm can = inl (served_done name words before now (Cut offset) ran cause calm can)
-seed_done words name before now (ReadFault count) command ran cause calm can = inl (served_done name words before now (ReadFault count) ran cause calm can)
-seed_done words name before now (WriteFault count) command ran cause calm can = inl (served_done name words before now (WriteFault count) ran cause calm can)
-seed_done words name before now (Quota frames) command ran cause calm can = inl (served_done name words before now (Quota frames) ran cause calm can)
-seed_done words name before now (SourceRefused source) command ran cause calm can = inl (served_done name words before now (SourceRefused source) ran cause calm can)
+-- a seed out of a file that is long enough isn't too short
+front_long : (files : Option Entries) (name bytes seed : List ℕ) (need : ℕ) → IsToldFile files name bytes → need ≤ length bytes → IsFront files name need seed → length seed < need → ⊥
+front_long files name bytes seed need told long (inl (len, begins)) short = omega (arith, len, short)
+front_long files name bytes seed need told long (inr (less, whole)) short =
+    let same = one_file files name bytes seed told whole in omega (arith, less, long, ap (λ (x : List ℕ). length x) same)
+
+short_seed : (kind : NodeKind) (need have : ℕ) (s : Short) → short_by kind need have ≡ Some s → (have < need) × (kind ≡ Rbg1)
+short_seed Rbg1 need have s h = (by (nat_lt have need) refl h, refl) where
+  by : (b : Bool) → nat_lt have need ≡ b → (if b then Some (record { have = have; need = need }) else None) ≡ Some s → have < need
+  by true e h = grind (arith, nat_tests)
+  by false e h = absurd cc
+short_seed Rbg2 need have s h = absurd cc
+short_seed Rbg3Xor need have s h = absurd cc
+short_seed Rbg3Rs need have s h = absurd cc
+short_seed Child need have s h = absurd cc
+
+no_plan : (nodes : List NodePlan) (n : ℕ) → n < length nodes → slice_get nodes n ≡ None → ⊥
+no_plan [] n less none = omega (arith, less)
+no_plan (x ∷ nodes) zero less none = absurd cc
+no_plan (x ∷ nodes) (suc n) less none = no_plan nodes n (omega (arith, less)) none
+
+-- each RBG1 of a plan has its seed from a file
+abbrev HaveFiles : (NodePlan → Option (List ℕ)) → Tree → Type 0
+HaveFiles file p = (n : ℕ) (plan : NodePlan) → slice_get p.nodes n ≡ Some plan → plan.kind ≡ Rbg1 → file plan ≡ None → ⊥
+
+root_file : (o : Origin) → IsFile 1 o → file_in o ≡ None → ⊥
+root_file (SeedFile name) is none = absurd cc
+root_file (Source n) is none = absurd is
+root_file (Parent n) is none = absurd is
+
+have_files : (p : Tree) → IsPlanned 1 p → HaveFiles planned_file p
+have_files p planned n plan at kind none =
+    root_file plan.origin (subst (λ (k : NodeKind). Fits 1 (length p.sources) (length p.nodes) k plan.origin) kind (planned.node n plan at).origin) none
+
+-- where each seed file is told and long enough, no seed is too short
+module _ (file : NodePlan → Option (List ℕ)) (p : Tree) (seeds : List (List ℕ)) (before : Outside) (have_files : HaveFiles file p) (are : AreSeeds before.files file p.nodes seeds) (can : CanBeServed file p before) where
+  by_file : (n : ℕ) (plan : NodePlan) (s : Short) → slice_get p.nodes n ≡ Some plan → short_by plan.kind (seed_len (row_of plan) New) (length (seed_in seeds n)) ≡ Some s
+      → (f : Option (List ℕ)) → file plan ≡ f → HasLongFile before.files f plan → IsSeedOf before.files f plan (seed_in seeds n) → ⊥
+  by_file n plan s at short None e has is = have_files n plan at (short_seed plan.kind (seed_len (row_of plan) New) (length (seed_in seeds n)) s short).1 e
+  by_file n plan s at short (Some name) e (bytes, told, long) is =
+      front_long before.files name bytes (seed_in seeds n) (seed_len (row_of plan) New) told long is (short_seed plan.kind (seed_len (row_of plan) New) (length (seed_in seeds n)) s short).0
+
+  none_short : (node have need : ℕ) → IsShort p seeds (SeedShort node have need) → ⊥
+  none_short node have need (less, short, before_it) = by (slice_get p.nodes node) refl where
+    by : (o : Option NodePlan) → slice_get p.nodes node ≡ o → ⊥
+    by None e = no_plan p.nodes node less e
+    by (Some plan) e =
+        let row : node_row p node ≡ row_of plan = ap (λ (o : Option NodePlan). row_of (unwrap_or o no_node)) e in
+        by_file node plan (record { have = have; need = need }) e (subst (λ (r : NodeRow). too_short r (seed_in seeds node) ≡ Some (record { have = have; need = need })) row short)
+        (file plan) refl (can.seeds node plan e) (are.each node plan e)
+
+module _ {S : Type 0} (told : S → Option (List ℕ)) (faults : S → ℕ) (file : NodePlan → Option (List ℕ)) (p : Tree) (before now : Outside) (have_files : HaveFiles file p) (calm : NoneRose before now) (can : CanBeServed file p before) where
+  over_done : (seeds : List (List ℕ)) (status : Status) → AreSeeds before.files file p.nodes seeds → RanOver told faults p seeds before now status → HasStatusCause before now status
+      → (status ≡ Done) ⊎ (status ≡ Memory)
+  over_done seeds Memory are ran cause = inr refl
+  over_done seeds (OpenFault count) are ran cause = absurd (calm.world cause.0)
+  over_done seeds (SeedShort node have need) are (still, same, short) cause = absurd (none_short file p seeds before have_files are can node have need short)
+  over_done seeds Done are ran cause = served_done file p seeds before now Done ran cause calm can
+  over_done seeds Usage are ran cause = served_done file p seeds before now Usage ran cause calm can
+  over_done seeds (Config fault) are ran cause = served_done file p seeds before now (Config fault) ran cause calm can
+  over_done seeds (Malformed offset why) are ran cause = served_done file p seeds before now (Malformed offset why) ran cause calm can
+  over_done seeds (Cut offset) are ran cause = served_done file p seeds before now (Cut offset) ran cause calm can
+  over_done seeds (ReadFault count) are ran cause = served_done file p seeds before now (ReadFault count) ran cause calm can
+  over_done seeds (WriteFault count) are ran cause = served_done file p seeds before now (WriteFault count) ran cause calm can
+  over_done seeds (Quota frames) are ran cause = served_done file p seeds before now (Quota frames) ran cause calm can
+  over_done seeds (SourceRefused source) are ran cause = served_done file p seeds before now (SourceRefused source) ran cause calm can
+
+  without_seeds : (status : Status) → HasNoSeeds status → HasStatusCause before now status → (status ≡ Done) ⊎ (status ≡ Memory)
+  without_seeds Memory none cause = inr refl
+  without_seeds (OpenFault count) none cause = absurd (calm.world cause.0)
+  without_seeds (SeedShort node have need) none cause = absurd none
+  without_seeds Done none cause = absurd none
+  without_seeds Usage none cause = absurd none
+  without_seeds (Config fault) none cause = absurd none
+  without_seeds (Malformed offset why) none cause = absurd none
+  without_seeds (Cut offset) none cause = absurd none
+  without_seeds (ReadFault count) none cause = absurd none
+  without_seeds (WriteFault count) none cause = absurd none
+  without_seeds (Quota frames) none cause = absurd none
+  without_seeds (SourceRefused source) none cause = absurd none
+
+  plan_done : (status : Status) → RanPlan told faults file p before now status → HasStatusCause before now status → (status ≡ Done) ⊎ (status ≡ Memory)
+  plan_done status (inl (none, same, still)) cause = without_seeds status none cause
+  plan_done status (inr (seeds, are, ran)) cause = over_done seeds status are ran cause
 
 -- a configuration that has no fault is none with one
 no_fault : (files : Option Entries) (name text : List ℕ) (tree : Tree) (before now : Outside) (status : Status) → IsToldFile files name text → Plan text (Ok tree)
@@ -141,19 +221,51 @@ check_done told faults reads words before now status can (left, inr (tree, (text
     none_refused told faults reads words before now status can
     (subst (λ (t : Tree). HasChecked told faults reads t before.recordings now.recordings before.out now.out status) planned did) cause calm
 
+module _ {S : Type 0} (told : S → Option (List ℕ)) (faults : S → ℕ) (words : List (List ℕ)) (before now : Outside) (status : Status) (cause : HasStatusCause before now status) (calm : NoneRose before now) where
+  seed_done : (name : List ℕ) → IsSeedCommand words name → RanSeed told faults name before now status → SeedCanBeServed words before → (status ≡ Done) ⊎ (status ≡ Memory)
+  seed_done name command ran can =
+      let called : name ≡ can.name = let e : codes "seed" ∷ name ∷ [] ≡ codes "seed" ∷ can.name ∷ [] = sym command ∙ can.command in cc in
+      plan_done told faults (λ (plan : NodePlan). Some can.name) stock_tree before now (λ n plan at kind none. absurd cc) calm can.served status
+      (subst (λ (n : List ℕ). RanSeed told faults n before now status) called ran) cause
+
+  answer_done : (name : List ℕ) → IsAnswerCommand words name → RanAnswer told faults name before now status → AnswerCanBeServed words before → (status ≡ Done) ⊎ (status ≡ Memory)
+  answer_done name command ran can =
+      let called : name ≡ can.name = let e : codes "answer" ∷ name ∷ [] ≡ codes "answer" ∷ can.name ∷ [] = sym command ∙ can.command in cc in
+      by (subst (λ (n : List ℕ). RanAnswer told faults n before now status) called ran) where
+        by : RanAnswer told faults can.name before now status → (status ≡ Done) ⊎ (status ≡ Memory)
+        by (inl (none, same, still)) = no_fault before.files can.name can.text can.tree before now status can.file can.plan none cause calm
+        by (inr (tree, (text, whole, plan), ran)) =
+            let same = one_file before.files can.name can.text text can.file whole in
+            let one = plan_once can.text (Ok can.tree) (Ok tree) can.plan (subst (λ (t : List ℕ). Plan t (Ok tree)) (sym same) plan) in
+            let planned : tree ≡ can.tree = cc in
+            plan_done told faults planned_file can.tree before now (have_files can.tree (plan_in_range can.text can.tree can.plan)) calm can.served status
+            (subst (λ (t : Tree). RanPlan told faults planned_file t before now status) planned ran) cause
+
 -- the words are one command
-apart : (words : List (List ℕ)) (a b : List ℕ) → IsSeedCommand words a → IsCheckCommand words b → ⊥
-apart words a b seed check = let e : codes "seed" ∷ a ∷ [] ≡ codes "check" ∷ b ∷ [] = sym seed ∙ check in absurd cc
+seed_answer : (words : List (List ℕ)) (a b : List ℕ) → IsSeedCommand words a → IsAnswerCommand words b → ⊥
+seed_answer words a b one other = let e : codes "seed" ∷ a ∷ [] ≡ codes "answer" ∷ b ∷ [] = sym one ∙ other in absurd cc
+
+seed_check : (words : List (List ℕ)) (a b : List ℕ) → IsSeedCommand words a → IsCheckCommand words b → ⊥
+seed_check words a b one other = let e : codes "seed" ∷ a ∷ [] ≡ codes "check" ∷ b ∷ [] = sym one ∙ other in absurd cc
+
+answer_check : (words : List (List ℕ)) (a b : List ℕ) → IsAnswerCommand words a → IsCheckCommand words b → ⊥
+answer_check words a b one other = let e : codes "answer" ∷ a ∷ [] ≡ codes "check" ∷ b ∷ [] = sym one ∙ other in absurd cc
 
 called_same : (words : List (List ℕ)) (a b : List ℕ) → IsCheckCommand words a → IsCheckCommand words b → a ≡ b
 called_same words a b one other = let e : codes "check" ∷ a ∷ [] ≡ codes "check" ∷ b ∷ [] = sym one ∙ other in cc
 
 pub complete : {S : Type 0} (told : S → Option (List ℕ)) (faults : S → ℕ) (reads : S → ℕ → Option (List ℕ) → S → Type 0) (words : List (List ℕ)) (before now : Outside) (status : Status)
     → Ran told faults reads words before now status → HasStatusCause before now status → IsComplete told faults reads words before now status
-complete told faults reads words before now status (inl (name, seed, kept, ran)) cause calm (inl can) = seed_done words name before now status seed ran cause calm can
-complete told faults reads words before now status (inl (name, seed, kept, ran)) cause calm (inr can) = absurd (apart words name can.name seed can.command)
-complete told faults reads words before now status (inr (inl (name, check, ran))) cause calm (inl can) = absurd (apart words can.name name can.command check)
-complete told faults reads words before now status (inr (inl (name, check, ran))) cause calm (inr can) =
+complete told faults reads words before now status (inl (name, seed, ran)) cause calm (inl can) = seed_done told faults words before now status cause calm name seed ran can
+complete told faults reads words before now status (inl (name, seed, ran)) cause calm (inr (inl can)) = absurd (seed_answer words name can.name seed can.command)
+complete told faults reads words before now status (inl (name, seed, ran)) cause calm (inr (inr can)) = absurd (seed_check words name can.name seed can.command)
+complete told faults reads words before now status (inr (inl (name, answer, ran))) cause calm (inl can) = absurd (seed_answer words can.name name can.command answer)
+complete told faults reads words before now status (inr (inl (name, answer, ran))) cause calm (inr (inl can)) = answer_done told faults words before now status cause calm name answer ran can
+complete told faults reads words before now status (inr (inl (name, answer, ran))) cause calm (inr (inr can)) = absurd (answer_check words name can.name answer can.command)
+complete told faults reads words before now status (inr (inr (inl (name, check, ran)))) cause calm (inl can) = absurd (seed_check words can.name name can.command check)
+complete told faults reads words before now status (inr (inr (inl (name, check, ran)))) cause calm (inr (inl can)) = absurd (answer_check words can.name name can.command check)
+complete told faults reads words before now status (inr (inr (inl (name, check, ran)))) cause calm (inr (inr can)) =
     check_done told faults reads words before now status can (subst (λ (n : List ℕ). RanCheck told faults reads n before now status) (called_same words name can.name check can.command) ran) cause calm
-complete told faults reads words before now status (inr (inr (none, _, _, _))) cause calm (inl can) = absurd (none.seed can.name can.command)
-complete told faults reads words before now status (inr (inr (none, _, _, _))) cause calm (inr can) = absurd (none.check can.name can.command)
+complete told faults reads words before now status (inr (inr (inr (none, usage, same, still)))) cause calm (inl can) = absurd (none.seed can.name can.command)
+complete told faults reads words before now status (inr (inr (inr (none, usage, same, still)))) cause calm (inr (inl can)) = absurd (none.answer can.name can.command)
+complete told faults reads words before now status (inr (inr (inr (none, usage, same, still)))) cause calm (inr (inr can)) = absurd (none.check can.name can.command)

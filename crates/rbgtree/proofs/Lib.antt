@@ -1,7 +1,9 @@
 pub mod Found
-pub mod Seeds
+pub mod FileFronts
+pub mod NodeSeeds
 pub mod Feeding
 pub mod Replies
+pub mod Heads
 pub mod GoingOn
 pub mod Pieces
 pub mod Whole

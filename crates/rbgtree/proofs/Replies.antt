@@ -1,37 +1,44 @@
 -- The replies to requests in a row, and to one request more.
-use Rattle.std.proofs.Common.{◌≡◌, ◌∷◌, List, [], ◌++◌, length, map, sym, ap, ◌∙◌, refl, arith}
+use Rattle.std.proofs.Common.{◌≡◌, ◌∷◌, ◌∙◌, List, [], ◌++◌, ℕ, length, map, refl, sym, ap, subst}
+use Rattle.std.proofs.lemmas.List.{length-map, map-append}
+use Rattle.std.specs.List.{AllByRecursion}
 use Rattle.frame_codec.specs.Grammar.{text_of}
 use Rattle.frame_codec.specs.Frames.{Asked, replies}
-use Rattle.frame_codec.proofs.Scripts.{flat-push}
-use Rattle.hmac_core.specs.declared.hash.Hash.{Hash}
-use Rattle.hmac_drbg.specs.HmacDrbg.{Working}
+use Rattle.frame_codec.proofs.Scripts.{all-push, flat-push}
+use Rattle.tree_rules.specs.Fits.{Legal}
+use Rattle.tree_rules.specs.History.{Entry, Opening, opened}
+use Rattle.tree_rules.specs.Openings.{IsHistory}
+use Rattle.tree_rules.proofs.Parting.{apart}
+use Rattle.tree_rules.proofs.Parts.{joined}
+use Rattle.tree_rules.proofs.Plans.{takes_samples}
+use Rattle.tree_rules.proofs.Quieting.{quiet}
 use Rattle.rbgtree.specs.Ends.{written}
-use Rattle.rbgtree.specs.Answers.{Answered, service, AreRight, answers, reply_to, state_after, state_after_all}
+use Rattle.rbgtree.specs.Answers.{Answered, IsAsked, AreRight, asked_of, entries_of, reply_to, service}
 
--- the answer to one request more
-abbrev pub next_answer : Hash → Working → List Asked → Asked → Answered
-next_answer h s rs a = record { asked = a; reply = reply_to h (state_after_all h s rs) a.head }
+pub asked-push : (es : List Answered) (e : Answered) → asked_of (es ++ e ∷ []) ≡ asked_of es ++ e.asked ∷ []
+asked-push es e = map-append (λ (e : Answered). e.asked) es (e ∷ [])
 
-pub answers-push : (h : Hash) (s : Working) (rs : List Asked) (a : Asked) → answers h s (rs ++ a ∷ []) ≡ answers h s rs ++ next_answer h s rs a ∷ []
-answers-push h s [] a = refl
-answers-push h s (r ∷ rs) a =
-    ap (λ (es : List Answered). record { asked = r; reply = reply_to h s r.head } ∷ es) (answers-push h (state_after h s r.head) rs a)
+pub entries-push : (es : List Answered) (e : Answered) → entries_of (es ++ e ∷ []) ≡ entries_of es ++ e.entry ∷ []
+entries-push es e = map-append (λ (e : Answered). e.entry) es (e ∷ [])
 
-pub state-push : (h : Hash) (s : Working) (rs : List Asked) (a : Asked) → state_after_all h s (rs ++ a ∷ []) ≡ state_after h (state_after_all h s rs) a.head
-state-push h s [] a = refl
-state-push h s (r ∷ rs) a = state-push h (state_after h s r.head) rs a
+pub length-asked : (es : List Answered) → length (asked_of es) ≡ length es
+length-asked es = length-map es (λ (e : Answered). e.asked)
 
-pub asked-answers : (h : Hash) (s : Working) (rs : List Asked) → map (λ (e : Answered). e.asked) (answers h s rs) ≡ rs
-asked-answers h s [] = refl
-asked-answers h s (r ∷ rs) = ap (λ (asked : List Asked). r ∷ asked) (asked-answers h (state_after h s r.head) rs)
+pub written-push : (es : List Answered) (e : Answered) → written service (es ++ e ∷ []) ≡ written service es ++ text_of replies (reply_to e.asked.head e.entry)
+written-push es e = flat-push service.text es e
 
-pub right-answers : (h : Hash) (s : Working) (rs : List Asked) → AreRight h s (answers h s rs)
-right-answers h s rs = ap (answers h s) (sym (asked-answers h s rs))
+pub asked-more : (es : List Answered) (e : Answered) → AllByRecursion IsAsked es → IsAsked e → AllByRecursion IsAsked (es ++ e ∷ [])
+asked-more es e all one = all-push IsAsked es e all one
 
-pub length-answers : (h : Hash) (s : Working) (rs : List Asked) → length (answers h s rs) ≡ length rs
-length-answers h s [] = refl
-length-answers h s (r ∷ rs) = omega (arith, length-answers h (state_after h s r.head) rs)
+pub history-more : (f : Opening) (o : List Entry) (es : List Answered) (e : Answered) → IsHistory f o (entries_of es ++ e.entry ∷ []) → IsHistory f o (entries_of (es ++ e ∷ []))
+history-more f o es e is = subst (λ (h : List Entry). IsHistory f o h) (sym (entries-push es e)) is
 
-pub written-push : (h : Hash) (s : Working) (rs : List Asked) (a : Asked) →
-    written service (answers h s (rs ++ a ∷ [])) ≡ written service (answers h s rs) ++ text_of replies (reply_to h (state_after_all h s rs) a.head)
-written-push h s rs a = ap (written service) (answers-push h s rs a) ∙ flat-push service.text (answers h s rs) (next_answer h s rs a)
+-- entries of requests whose history is legal are right
+pub right : (f : Opening) (o : List Entry) (es : List Answered) → AllByRecursion IsAsked es → IsHistory f o (entries_of es) → AreRight f o es
+right f o es asked is =
+    let whole : Legal f.plan (opened f) (o ++ entries_of es) = joined f.plan (opened f) o (entries_of es) is.opening.legal is.legal in record {
+      asked = asked;
+      history = is;
+      apart = apart f (o ++ entries_of es) whole;
+      quiet = quiet f (o ++ entries_of es) (takes_samples 0 f.plan is.opening.planned) whole;
+    }

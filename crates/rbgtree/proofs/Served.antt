@@ -1,18 +1,94 @@
--- A session's end as a status.
-use Rattle.std.proofs.Common.{◌≡◌, ℕ, List, refl}
-use Rattle.rbgtree.specs.Run.{Outside, Served, RanSeed, HasStatusCause}
-use Rattle.rbgtree.specs.Session.{HasReadCause, HasWriteCause}
+-- A tree that was opened, a session's end as a status, and how the program ends without one.
+use Rattle.std.proofs.Common.{◌≡◌, ◌∷◌, ◌∙◌, ℕ, List, [], length, map, refl, sym, ap, inl, inr}
+use Rattle.std.specs.Prelude.{Option, Some, None, Err}
+use Rattle.tree_config.specs.Tree.{Tree}
+use Rattle.tree_rules.specs.History.{Entry, Opening}
+use Rattle.tree_rules.specs.Openings.{IsHistory}
+use Rattle.tree_core.specs.Solo.{AreLong, IsCause, OpensAs, SoloView, StandAfter}
+use Rattle.tree_core.specs.declared.refusal.OpenRefusal.TheVariants as refusals
+use Rattle.rbgtree.specs.Files.{Entries}
+use Rattle.rbgtree.specs.Recordings.{Recording, Recordings, recording_of}
+use Rattle.rbgtree.specs.Check.{HasNoPlan, HasOpenCause, HasPlanCause, OpensAll, sample_names, status_without}
+use Rattle.rbgtree.specs.Run.{Outside, HasNoTree, HasStatusCause, IsShort, IsUntouched, OpensTree, RanOver, Served}
+use Rattle.rbgtree.specs.Session.{HasReadCause, HasWriteCause, Session}
 use Rattle.rbgtree.specs.Statuses.{status_of}
+use Rattle.rbgtree.specs.declared.check.NotOpened.{NotOpened}
+use Rattle.rbgtree.specs.declared.check.NotOpened.TheVariants.{Fault, OutOfMemory}
 use Rattle.rbgtree.specs.declared.ends.End.{End}
 use Rattle.rbgtree.specs.declared.ends.End.TheVariants.{Read, Bad, Cut, ReadFault, WriteFault, Quota}
+use Rattle.rbgtree.specs.declared.status.Status.{Status}
+use Rattle.rbgtree.specs.declared.status.Status.TheVariants as statuses
 
-pub ran_served : (before now : Outside) (name : List ℕ) (end : End) → Served name before now end → RanSeed name before now (status_of end)
-ran_served before now name (Read frames) served = (Read frames, refl, served)
-ran_served before now name (Bad offset why) served = (Bad offset why, refl, served)
-ran_served before now name (Cut offset) served = (Cut offset, refl, served)
-ran_served before now name (ReadFault count) served = (ReadFault count, refl, served)
-ran_served before now name (WriteFault count) served = (WriteFault count, refl, served)
-ran_served before now name (Quota frames) served = (Quota frames, refl, served)
+module _ {S : Type 0} (told : S → Option (List ℕ)) (faults : S → ℕ) where
+  told_of : (xs : List S) → map (λ (r : Recording). r.told) (map (recording_of told faults) xs) ≡ map told xs
+  told_of [] = refl
+  told_of (x ∷ xs) = ap (λ (l : List (Option (List ℕ))). told x ∷ l) (told_of xs)
+
+  faults_of : (xs : List S) → map (λ (r : Recording). r.faults) (map (recording_of told faults) xs) ≡ map faults xs
+  faults_of [] = refl
+  faults_of (x ∷ xs) = ap (λ (l : List ℕ). faults x ∷ l) (faults_of xs)
+
+  pub opens_tree : (p : Tree) (seeds : List (List ℕ)) (before now : Option Recordings) (samples : List S) (t : SoloView S)
+      → OpensAll before now (sample_names p.sources) (map (recording_of told faults) samples) → OpensAs told faults p samples seeds t → OpensTree told faults p seeds before now t
+  opens_tree p seeds before now samples t opens is = record {
+    f = is.f;
+    o = is.o;
+    over = record {
+      plan_is = is.given.plan_is;
+      seeds_are = is.given.seeds_are;
+      opened = map (recording_of told faults) samples;
+      opens = opens;
+      told_are = is.given.told_are ∙ sym (told_of samples);
+      faults_are = is.given.faults_are ∙ sym (faults_of samples);
+    };
+    opening = is.is_opening;
+    plan = is.given.plan_is ∙ sym is.plan_is;
+    stand = is.stand;
+    calls = is.calls;
+  }
+
+  pub served : (p : Tree) (seeds : List (List ℕ)) (before now : Outside) (t : SoloView S) (end : End) → OpensTree told faults p seeds before.recordings now.recordings t
+      → ((f : Opening) (o : List Entry) → IsHistory f o [] → f.plan ≡ t.plan → StandAfter told faults f o [] t.nodes t.sources → Session f o 1048576 end before.left now.left before.out now.out)
+      → Served p seeds before now end
+  served p seeds before now t end tree table = record {
+    f = tree.f;
+    o = tree.o;
+    over = tree.over;
+    opening = tree.opening;
+    session = table tree.f tree.o (record { opening = tree.opening; legal = tt }) tree.plan tree.stand;
+  }
+
+  module _ (p : Tree) (seeds : List (List ℕ)) (before now : Outside) where
+    pub ran_served : (end : End) → Served p seeds before now end → RanOver told faults p seeds before now (status_of end)
+    ran_served (Read frames) served = (Read frames, refl, served)
+    ran_served (Bad offset why) served = (Bad offset why, refl, served)
+    ran_served (Cut offset) served = (Cut offset, refl, served)
+    ran_served (ReadFault count) served = (ReadFault count, refl, served)
+    ran_served (WriteFault count) served = (WriteFault count, refl, served)
+    ran_served (Quota frames) served = (Quota frames, refl, served)
+
+    pub ran_without : (why : NotOpened) (count : ℕ) → IsUntouched before now → AreLong p seeds (length p.nodes) → HasNoTree told faults p before.recordings now.recordings why
+        → RanOver told faults p seeds before now (status_without why count)
+    ran_without Fault count still long none = (still, long, none)
+    ran_without OutOfMemory count still long none = (still, none)
+
+    pub ran_short : (status : Status) → IsUntouched before now → now.recordings ≡ before.recordings → IsShort p seeds status → RanOver told faults p seeds before now status
+    ran_short (statuses.SeedShort node have need) still same short = (still, same, short)
+    ran_short statuses.Done still same short = absurd short
+    ran_short statuses.Usage still same short = absurd short
+    ran_short (statuses.Config fault) still same short = absurd short
+    ran_short (statuses.Malformed offset why) still same short = absurd short
+    ran_short (statuses.Cut offset) still same short = absurd short
+    ran_short (statuses.ReadFault count) still same short = absurd short
+    ran_short (statuses.WriteFault count) still same short = absurd short
+    ran_short (statuses.OpenFault count) still same short = absurd short
+    ran_short statuses.Memory still same short = absurd short
+    ran_short (statuses.Quota frames) still same short = absurd short
+    ran_short (statuses.SourceRefused source) still same short = absurd short
+
+-- seeds that are long enough are none that are too short
+pub not_short : (p : Tree) (seeds : List (List ℕ)) (node have need : ℕ) → AreLong p seeds (length p.nodes) → IsCause p seeds (refusals.SeedShort node have need) → ⊥
+not_short p seeds node have need long (less, short, before) = let none = long node less in absurd cc
 
 pub cause_served : (before now : Outside) (end : End) → now.world ≡ before.world → HasReadCause before.input now.input end → HasWriteCause before.output now.output end →
     HasStatusCause before now (status_of end)
@@ -22,3 +98,46 @@ cause_served before now (Cut offset) world read write = record { world = world; 
 cause_served before now (ReadFault count) world read write = (read.0, read.1, world, write)
 cause_served before now (WriteFault count) world read write = (write.0, write.1, world, read)
 cause_served before now (Quota frames) world read write = record { world = world; input = read; output = write }
+
+pub cause_without : (T : Type 0) (before now : Outside) (why : NotOpened) → HasOpenCause {T = T} before.world now.world (Err why) → now.input ≡ before.input → now.output ≡ before.output
+    → HasStatusCause before now (status_without why now.world)
+cause_without T before now Fault cause input output = (cause, refl, input, output)
+cause_without T before now OutOfMemory cause input output = record { world = cause; input = input; output = output }
+
+pub cause_short : (p : Tree) (seeds : List (List ℕ)) (before now : Outside) (status : Status) → IsShort p seeds status → now.world ≡ before.world → now.input ≡ before.input → now.output ≡ before.output
+    → HasStatusCause before now status
+cause_short p seeds before now (statuses.SeedShort node have need) short world input output = record { world = world; input = input; output = output }
+cause_short p seeds before now statuses.Done short world input output = absurd short
+cause_short p seeds before now statuses.Usage short world input output = absurd short
+cause_short p seeds before now (statuses.Config fault) short world input output = absurd short
+cause_short p seeds before now (statuses.Malformed offset why) short world input output = absurd short
+cause_short p seeds before now (statuses.Cut offset) short world input output = absurd short
+cause_short p seeds before now (statuses.ReadFault count) short world input output = absurd short
+cause_short p seeds before now (statuses.WriteFault count) short world input output = absurd short
+cause_short p seeds before now (statuses.OpenFault count) short world input output = absurd short
+cause_short p seeds before now statuses.Memory short world input output = absurd short
+cause_short p seeds before now (statuses.Quota frames) short world input output = absurd short
+cause_short p seeds before now (statuses.SourceRefused source) short world input output = absurd short
+
+-- the outside before a step that left what it tells as it was
+abbrev outside : Option Entries → Option Recordings → Option (List ℕ) → Option (List ℕ) → ℕ → ℕ → ℕ → Outside
+outside files recordings left out world input output = record { files = files; recordings = recordings; left = left; out = out; world = world; input = input; output = output }
+
+pub same_outside : (files files' : Option Entries) (recordings recordings' : Option Recordings) (left out : Option (List ℕ)) (world world' input output : ℕ)
+    → files ≡ files' → recordings ≡ recordings' → world ≡ world' → outside files recordings left out world input output ≡ outside files' recordings' left out world' input output
+same_outside files files' recordings recordings' left out world world' input output a b c = rw (a, b, c) refl
+
+pub cause_planless : (T : Type 0) (files : Option Entries) (name : List ℕ) (before now : Outside) (status : Status) → HasNoPlan files name status → HasPlanCause {T = T} before.world now.world (Err status)
+    → now.input ≡ before.input → now.output ≡ before.output → HasStatusCause before now status
+cause_planless T files name before now (statuses.Config fault) none cause input output = record { world = cause; input = input; output = output }
+cause_planless T files name before now statuses.Memory none cause input output = record { world = cause; input = input; output = output }
+cause_planless T files name before now (statuses.OpenFault count) none cause input output = (cause.0, cause.1, input, output)
+cause_planless T files name before now statuses.Done none cause input output = absurd none
+cause_planless T files name before now statuses.Usage none cause input output = absurd none
+cause_planless T files name before now (statuses.Malformed offset why) none cause input output = absurd none
+cause_planless T files name before now (statuses.Cut offset) none cause input output = absurd none
+cause_planless T files name before now (statuses.ReadFault count) none cause input output = absurd none
+cause_planless T files name before now (statuses.WriteFault count) none cause input output = absurd none
+cause_planless T files name before now (statuses.Quota frames) none cause input output = absurd none
+cause_planless T files name before now (statuses.SeedShort node have need) none cause input output = absurd none
+cause_planless T files name before now (statuses.SourceRefused source) none cause input output = absurd none

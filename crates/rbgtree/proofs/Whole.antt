@@ -1,57 +1,28 @@
 -- How a session begins and ends.
-use Rattle.std.proofs.Common.{◌≡◌, ◌<◌, ℕ, ◌*◌, ◌∷◌, List, [], ◌++◌, length, sym, ap, ◌∙◌, arith, append-nil, refl, subst}
+use Rattle.std.proofs.Common.{◌≡◌, ◌<◌, ◌≤◌, ◌^◌, ℕ, ◌*◌, ◌∷◌, List, [], ◌++◌, length, sym, ap, ◌∙◌, arith, append-nil, refl, subst}
 use Rattle.std.specs.declared.option.Option.{Option}
 use Rattle.std.specs.Io.KnownBytes.{Consumes, IsAtEnd, Keeps}
 use Rattle.std.proofs.KnownBytes.{Consumes-nil, Consumes-trans, Consumes-kept, Appends-nil}
-use Rattle.frame_codec.specs.Frames.{Asked, IsScript}
+use Rattle.frame_codec.specs.Frames.{IsScript}
 use Rattle.frame_codec.specs.Decoding.{Begun, Reads}
 use Rattle.frame_codec.proofs.Lengths.{longest, reads-short}
-use Rattle.hmac_drbg.specs.declared.state.HmacDrbg.{HmacDrbg}
-use Rattle.hmac_drbg.specs.State.{working}
+use Rattle.tree_rules.specs.History.{Entry, Opening}
+use Rattle.tree_rules.specs.Openings.{IsHistory}
+use Rattle.tree_core.specs.Solo.{SoloView, StandAfter}
 use Rattle.rbgtree.specs.declared.ends.End.{End}
 use Rattle.rbgtree.specs.declared.ends.End.TheVariants.{Read, Bad, Cut, ReadFault, WriteFault, Quota}
 use Rattle.rbgtree.specs.declared.session.Progress.{Progress}
 use Rattle.rbgtree.specs.Ends.{Ends, written}
-use Rattle.rbgtree.specs.Answers.{service, AreRight, answers}
-use Rattle.rbgtree.specs.Session.{Began, Stands, Stops, Session, HasReadCause, IsPieceEnd}
-use Rattle.rbgtree.proofs.Replies.{asked-answers, right-answers, length-answers}
+use Rattle.rbgtree.specs.Answers.{Answered, AreRight, asked_of, service}
+use Rattle.rbgtree.specs.Session.{Began, IsReady, Stands, Stops, Session, HasReadCause, IsPieceEnd}
+use Rattle.rbgtree.proofs.Replies.{right}
 
 -- what stands between two reads: the bytes that were taken from the source, and what the session has come to by them
-pub record HasTaken (b : Began) (left_before left_now : Option (List ℕ)) (p : Progress) (out : Option (List ℕ)) : Type 0 where
+pub record HasTaken {S : Type 0} (told : S → Option (List ℕ)) (faults : S → ℕ) (b : Began) (left_before left_now : Option (List ℕ)) (p : Progress S) (out : Option (List ℕ)) : Type 0 where
   pub taken : List ℕ
-  pub rs : List Asked
-  pub stands : Stands b taken rs p out
+  pub es : List Answered
+  pub stands : Stands told faults b taken es p out
   pub consumed : Consumes left_before left_now taken
-
--- nothing was taken yet
-pub taken-none : (d : Begun) (max : ℕ) (g : HmacDrbg) (out left : Option (List ℕ)) → Reads [] [] d →
-    HasTaken (record { hash = g.hash; state = working g; max = max; out = out }) left left (record { decoder = d; frames = 0; max_frames = max; drbg = g }) out
-taken-none d max g out left reads = record {
-  taken = [];
-  rs = [];
-  stands = record { reads = reads; frames = refl; max = refl; hash = refl; state = refl; text = Appends-nil out };
-  consumed = Consumes-nil left;
-}
-
--- a piece more was taken
-pub taken-more : (b : Began) (left_before left_mid left_now : Option (List ℕ)) (p q : Progress) (out out' : Option (List ℕ)) (piece : List ℕ) →
-    (h : HasTaken b left_before left_mid p out) → Consumes left_mid left_now piece → ((rs : List Asked) × Stands b (h.taken ++ piece) rs q out') →
-    HasTaken b left_before left_now q out'
-taken-more b left_before left_mid left_now p q out out' piece h more on = record {
-  taken = h.taken ++ piece;
-  rs = on.0;
-  stands = on.1;
-  consumed = Consumes-trans left_before left_mid left_now h.taken piece h.consumed more;
-}
-
--- how far into the input a session is that may still answer a frame
-pub offset-bound : (b : Began) (left_before left_now : Option (List ℕ)) (p : Progress) (out : Option (List ℕ)) → HasTaken b left_before left_now p out →
-    p.frames < p.max_frames → p.decoder.offset < longest * p.max_frames
-offset-bound b left_before left_now p out h fewer = omega (arith, reads-short h.taken h.rs p.decoder h.stands.reads, h.stands.frames, fewer)
-
-few : (b : Began) (taken : List ℕ) (rs : List Asked) (p : Progress) (out : Option (List ℕ)) → Stands b taken rs p out → p.frames < p.max_frames →
-    length (answers b.hash b.state rs) < b.max
-few b taken rs p out st less = omega (arith, length-answers b.hash b.state rs, st.frames, st.max, less)
 
 no-bytes : (xs : List ℕ) → (0 < length xs → ⊥) → xs ≡ []
 no-bytes [] none = refl
@@ -64,84 +35,119 @@ taken-still left_before left_mid left_now taken piece first more none =
     subst (λ (x : List ℕ). Consumes left_before left_now x) (ap (λ (x : List ℕ). taken ++ x) none ∙ append-nil taken)
     (Consumes-trans left_before left_mid left_now taken piece first more)
 
--- the source ended between two frames
-pub session-read : (b : Began) (left_before left_mid left_now : Option (List ℕ)) (p : Progress) (out : Option (List ℕ)) (piece : List ℕ) →
-    HasTaken b left_before left_mid p out → Consumes left_mid left_now piece → piece ≡ [] → IsAtEnd left_now → p.frames < p.max_frames →
-    (0 < length p.decoder.rest → ⊥) → Session b.hash b.state b.max (Read p.frames) left_before left_now b.out out
-session-read b left_before left_mid left_now p out piece h more none ended less outside = (
-  h.taken,
-  written service (answers b.hash b.state h.rs),
-  taken-still left_before left_mid left_now h.taken piece h.consumed more none,
-  h.stands.text,
-  (
-    h.rs,
-    answers b.hash b.state h.rs,
-    subst (λ (r : List ℕ). IsScript h.taken h.rs r) (no-bytes p.decoder.rest outside) h.stands.reads.script,
-    ended,
-    asked-answers b.hash b.state h.rs,
-    right-answers b.hash b.state h.rs,
-    few b h.taken h.rs p out h.stands less,
-    h.stands.frames ∙ sym (length-answers b.hash b.state h.rs),
-    refl,
-  ),
-)
+-- how far into the input a session is that may still answer a frame
+pub offset-bound : {S : Type 0} (p : Progress S) → IsReady p → p.decoder.offset < longest * p.max_frames
+offset-bound p r = omega (arith, reads-short r.taken r.rs p.decoder r.reads, r.frames, r.fewer)
 
--- the source ended within a frame
-pub session-cut : (b : Began) (left_before left_mid left_now : Option (List ℕ)) (p : Progress) (out : Option (List ℕ)) (piece : List ℕ) (offset : ℕ) →
-    offset ≡ p.decoder.offset → HasTaken b left_before left_mid p out → Consumes left_mid left_now piece → piece ≡ [] → IsAtEnd left_now → p.frames < p.max_frames →
-    0 < length p.decoder.rest → Session b.hash b.state b.max (Cut offset) left_before left_now b.out out
-session-cut b left_before left_mid left_now p out piece offset is h more none ended less inside = (
-  h.taken,
-  written service (answers b.hash b.state h.rs),
-  taken-still left_before left_mid left_now h.taken piece h.consumed more none,
-  h.stands.text,
-  (
-    h.rs,
-    answers b.hash b.state h.rs,
-    p.decoder.rest,
-    h.stands.reads.script,
-    inside,
-    ended,
-    asked-answers b.hash b.state h.rs,
-    right-answers b.hash b.state h.rs,
-    few b h.taken h.rs p out h.stands less,
-    is ∙ h.stands.reads.offset,
-    refl,
-  ),
-)
+-- a session that begins is ready
+pub ready-first : {S : Type 0} (d : Begun) (max : ℕ) (t : SoloView S) → Reads [] [] d → t.calls ≡ 0 → 0 < max → max ≤ 2 ^ 40
+    → IsReady (record { decoder = d; frames = 0; max_frames = max; tree = t })
+ready-first d max t reads none some most = record { taken = []; rs = []; reads = reads; frames = refl; calls = none; fewer = some; bound = most }
 
--- a read failed
-pub session-failed : (b : Began) (left_before left_mid left_now : Option (List ℕ)) (p : Progress) (out : Option (List ℕ)) (count : ℕ) →
-    HasTaken b left_before left_mid p out → Keeps left_mid left_now → p.frames < p.max_frames →
-    Session b.hash b.state b.max (ReadFault count) left_before left_now b.out out
-session-failed b left_before left_mid left_now p out count h kept less = (
-  h.taken,
-  written service (answers b.hash b.state h.rs),
-  Consumes-kept left_before left_mid left_now h.taken h.consumed kept,
-  h.stands.text,
-  (
-    h.rs,
-    answers b.hash b.state h.rs,
-    p.decoder.rest,
-    h.stands.reads.script,
-    asked-answers b.hash b.state h.rs,
-    right-answers b.hash b.state h.rs,
-    few b h.taken h.rs p out h.stands less,
-    refl,
-  ),
-)
+module _ {S : Type 0} (told : S → Option (List ℕ)) (faults : S → ℕ) where
+  -- nothing was taken yet
+  pub taken-none : (f : Opening) (o : List Entry) (d : Begun) (max : ℕ) (t : SoloView S) (out left : Option (List ℕ)) → Reads [] [] d → IsHistory f o [] → f.plan ≡ t.plan
+      → StandAfter told faults f o [] t.nodes t.sources
+      → HasTaken told faults (record { f = f; o = o; max = max; out = out }) left left (record { decoder = d; frames = 0; max_frames = max; tree = t }) out
+  taken-none f o d max t out left reads history plan stand = record {
+    taken = [];
+    es = [];
+    stands = record { reads = reads; asked = tt; history = history; frames = refl; max = refl; plan = plan; stand = stand; text = Appends-nil out };
+    consumed = Consumes-nil left;
+  }
 
--- a piece of bytes ended the session
-pub session-ended : (b : Began) (left_before left_mid left_now : Option (List ℕ)) (p : Progress) (out out' : Option (List ℕ)) (piece : List ℕ) (end : End) →
-    (h : HasTaken b left_before left_mid p out) → Consumes left_mid left_now piece → Stops b (h.taken ++ piece) out' end →
-    Session b.hash b.state b.max end left_before left_now b.out out'
-session-ended b left_before left_mid left_now p out out' piece end h more stops = (
-  h.taken ++ piece,
-  stops.0,
-  Consumes-trans left_before left_mid left_now h.taken piece h.consumed more,
-  stops.1,
-  subst (λ (x : List ℕ). Ends service (AreRight b.hash b.state) b.max end x left_now stops.0) (append-nil (h.taken ++ piece)) (stops.2 [] left_now),
-)
+  -- a piece more was taken
+  pub taken-more : (b : Began) (left_before left_mid left_now : Option (List ℕ)) (p q : Progress S) (out out' : Option (List ℕ)) (piece : List ℕ)
+      → (h : HasTaken told faults b left_before left_mid p out) → Consumes left_mid left_now piece → ((es : List Answered) × Stands told faults b (h.taken ++ piece) es q out')
+      → HasTaken told faults b left_before left_now q out'
+  taken-more b left_before left_mid left_now p q out out' piece h more on = record {
+    taken = h.taken ++ piece;
+    es = on.0;
+    stands = on.1;
+    consumed = Consumes-trans left_before left_mid left_now h.taken piece h.consumed more;
+  }
+
+  module _ (b : Began) (left_before left_mid : Option (List ℕ)) (p : Progress S) (out : Option (List ℕ)) (h : HasTaken told faults b left_before left_mid p out) where
+    few : p.frames < p.max_frames → length h.es < b.max
+    few less = omega (arith, h.stands.frames, h.stands.max, less)
+
+    are_right : AreRight b.f b.o h.es
+    are_right = right b.f b.o h.es h.stands.asked h.stands.history
+
+    -- the source ended between two frames
+    pub session-read : (left_now : Option (List ℕ)) (piece : List ℕ) → Consumes left_mid left_now piece → piece ≡ [] → IsAtEnd left_now → p.frames < p.max_frames
+        → (0 < length p.decoder.rest → ⊥) → Session b.f b.o b.max (Read p.frames) left_before left_now b.out out
+    session-read left_now piece more none ended less outside = (
+      h.taken,
+      written service h.es,
+      taken-still left_before left_mid left_now h.taken piece h.consumed more none,
+      h.stands.text,
+      (
+        asked_of h.es,
+        h.es,
+        subst (λ (r : List ℕ). IsScript h.taken (asked_of h.es) r) (no-bytes p.decoder.rest outside) h.stands.reads.script,
+        ended,
+        refl,
+        are_right,
+        few less,
+        h.stands.frames,
+        refl,
+      ),
+    )
+
+    -- the source ended within a frame
+    pub session-cut : (left_now : Option (List ℕ)) (piece : List ℕ) (offset : ℕ) → offset ≡ p.decoder.offset → Consumes left_mid left_now piece → piece ≡ [] → IsAtEnd left_now
+        → p.frames < p.max_frames → 0 < length p.decoder.rest → Session b.f b.o b.max (Cut offset) left_before left_now b.out out
+    session-cut left_now piece offset is more none ended less inside = (
+      h.taken,
+      written service h.es,
+      taken-still left_before left_mid left_now h.taken piece h.consumed more none,
+      h.stands.text,
+      (
+        asked_of h.es,
+        h.es,
+        p.decoder.rest,
+        h.stands.reads.script,
+        inside,
+        ended,
+        refl,
+        are_right,
+        few less,
+        is ∙ h.stands.reads.offset,
+        refl,
+      ),
+    )
+
+    -- a read failed
+    pub session-failed : (left_now : Option (List ℕ)) (count : ℕ) → Keeps left_mid left_now → p.frames < p.max_frames
+        → Session b.f b.o b.max (ReadFault count) left_before left_now b.out out
+    session-failed left_now count kept less = (
+      h.taken,
+      written service h.es,
+      Consumes-kept left_before left_mid left_now h.taken h.consumed kept,
+      h.stands.text,
+      (
+        asked_of h.es,
+        h.es,
+        p.decoder.rest,
+        h.stands.reads.script,
+        refl,
+        are_right,
+        few less,
+        refl,
+      ),
+    )
+
+    -- a piece of bytes ended the session
+    pub session-ended : (left_now out' : Option (List ℕ)) (piece : List ℕ) (end : End) → Consumes left_mid left_now piece → Stops b (h.taken ++ piece) out' end
+        → Session b.f b.o b.max end left_before left_now b.out out'
+    session-ended left_now out' piece end more stops = (
+      h.taken ++ piece,
+      stops.0,
+      Consumes-trans left_before left_mid left_now h.taken piece h.consumed more,
+      stops.1,
+      subst (λ (x : List ℕ). Ends service (AreRight b.f b.o) b.max end x left_now stops.0) (append-nil (h.taken ++ piece)) (stops.2 [] left_now),
+    )
 
 -- an end that a piece brings is no fault of the source
 pub piece-cause : (end : End) (before now : ℕ) → IsPieceEnd end → now ≡ before → HasReadCause before now end

@@ -1,57 +1,60 @@
--- What one caller of an HMAC_DRBG is answered, request by request.
--- This project's own; the bytes are those of SP 800-90A Rev. 1, 10.1.2.5, with empty additional input.
-use Rattle.std.specs.Prelude.{◌≡◌, ℕ, List, [], ◌∷◌, map, if◌then◌else◌, nat_lt}
+-- What a caller of a tree is answered, request by request.
+-- This project's own.
+use Rattle.std.specs.Prelude.{◌≡◌, ℕ, List, [], ◌++◌, map, false}
+use Rattle.std.specs.List.{AllByRecursion}
 use Rattle.frame_codec.specs.declared.frames.Request.{Request}
 use Rattle.frame_codec.specs.declared.frames.ReplyHead.{ReplyHead}
 use Rattle.frame_codec.specs.Grammar.{text_of}
 use Rattle.frame_codec.specs.Frames.{Asked, Replied, replies}
-use Rattle.hmac_core.specs.declared.hash.Hash.{Hash}
-use Rattle.hmac_drbg.specs.HmacDrbg.{Working, generated, after_generate}
+use Rattle.tree_rules.specs.declared.call.Call.{Call}
+use Rattle.tree_rules.specs.declared.call.Call.TheVariants.{Generate}
+use Rattle.tree_rules.specs.declared.reply.Reply.{Reply}
+use Rattle.tree_rules.specs.History.{Entry, Opening, opened}
+use Rattle.tree_rules.specs.Openings.{IsHistory}
+use Rattle.tree_rules.specs.Apart.{Apart}
+use Rattle.tree_rules.specs.Quiet.{Quiet}
 use Rattle.rbgtree.specs.Ends.{Service}
 
--- the head of the reply Done, before a payload of as many bytes as were asked
-abbrev pub done_head : Request → ReplyHead
-done_head r = record { code = 0; op = r.op; node = r.node; id = r.id; a = 0; b = 0; len = r.count }
+-- the call that a request asks; those that are served yet are Generates without prediction resistance
+abbrev pub call_of : Request → Call
+call_of r = Generate r.node r.count r.strength false
 
--- the head of the reply TooLong, with what was asked and the limit
-abbrev pub too_long_head : Request → ReplyHead
-too_long_head r = record { code = 2; op = r.op; node = r.node; id = r.id; a = r.count; b = 65536; len = 0 }
+-- the head of the reply frame to a request whose call was answered so, and the frame with the bytes of the answer
+abbrev pub reply_head : Request → Reply → ReplyHead
+reply_head r reply = record { code = reply.code; op = r.op; node = r.node; id = r.id; a = reply.a; b = reply.b; len = reply.len }
 
--- the head of the reply to a request
-abbrev pub reply_head : Request → ReplyHead
-reply_head r = if nat_lt 65536 r.count then too_long_head r else done_head r
+abbrev pub reply_to : Request → Entry → Replied
+reply_to r e = record { head = reply_head r e.reply; string = e.bytes }
 
--- the bytes behind it, from the working state s
-abbrev pub reply_payload : Hash → Working → Request → List ℕ
-reply_payload h s r = if nat_lt 65536 r.count then [] else generated h [] r.count s
-
--- the reply to a request
-abbrev pub reply_to : Hash → Working → Request → Replied
-reply_to h s r = record { head = reply_head r; string = reply_payload h s r }
-
--- the state that it leaves
-abbrev pub state_after : Hash → Working → Request → Working
-state_after h s r = if nat_lt 65536 r.count then s else after_generate h [] r.count s
-
--- the state that requests in a row leave
-abbrev pub state_after_all : Hash → Working → List Asked → Working
-state_after_all h s [] = s
-state_after_all h s (a ∷ asked) = state_after_all h (state_after h s a.head) asked
-
--- a request with its reply
+-- a request with the entry of its call
 pub record Answered : Type 0 where
   pub asked : Asked
-  pub reply : Replied
+  pub entry : Entry
 
--- the replies to requests in a row
-abbrev pub answers : Hash → Working → List Asked → List Answered
-answers h s [] = []
-answers h s (a ∷ asked) = record { asked = a; reply = reply_to h s a.head } ∷ answers h (state_after h s a.head) asked
+abbrev pub asked_of : List Answered → List Asked
+asked_of es = map (λ (e : Answered). e.asked) es
 
--- each request has the reply that is due to it, from the state s on
-abbrev pub AreRight : Hash → Working → List Answered → Type 0
-AreRight h s es = es ≡ answers h s (map (λ (e : Answered). e.asked) es)
+abbrev pub entries_of : List Answered → List Entry
+entries_of es = map (λ (e : Answered). e.entry) es
 
--- each request is one call, and its reply frame is the text of its answer
+-- the entry is that of the request's call with its string, which caller 1 made
+pub record IsAsked (e : Answered) : Type 0 where
+  pub caller : e.entry.caller ≡ 1
+  pub call : e.entry.call ≡ call_of e.asked.head
+  pub string : e.entry.string ≡ e.asked.string
+
+-- The entries of requests in a row are right behind the opening calls o: each is that of its request, and behind these calls they make
+-- a legal history, which uses no sample twice and is quiet after alarms.
+pub record AreRight (f : Opening) (o : List Entry) (es : List Answered) : Type 0 where
+  pub asked : AllByRecursion IsAsked es
+  pub history : IsHistory f o (entries_of es)
+  pub apart : Apart f.plan (o ++ entries_of es)
+  pub quiet : Quiet f.plan (opened f) (o ++ entries_of es)
+
+-- each request is one call, and its reply frame is the text of its entry's reply and bytes
 abbrev pub service : Service Answered Asked
-service = record { calls = λ (rs : List Asked). rs; call_of = λ (e : Answered). e.asked; text = λ (e : Answered). text_of replies e.reply }
+service = record {
+  calls = λ (rs : List Asked). rs;
+  call_of = λ (e : Answered). e.asked;
+  text = λ (e : Answered). text_of replies (reply_to e.asked.head e.entry);
+}

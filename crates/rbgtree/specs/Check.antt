@@ -5,7 +5,7 @@ use Rattle.std.specs.Io.KnownBytes.{Appends}
 use Rattle.rbg_bytes.specs.Streams.{Rose, AppendsFront}
 use Rattle.health_tests.specs.Numbers.{no_tail}
 use Rattle.entropy_source.specs.Views.{SourceView, opened_view, HasStarted}
-use Rattle.entropy_source.specs.declared.answers.SourceRow.{SourceRow}
+use Rattle.tree_rules.specs.Slots.{source_row_of}
 use Rattle.entropy_source.specs.declared.answers.SourceRefusal.{SourceRefusal}
 use Rattle.tree_config.specs.Tree.{Tree, Plan}
 use Rattle.tree_config.specs.declared.plan.SourcePlan.{SourcePlan}
@@ -41,20 +41,21 @@ HasNotOpened {S} told faults sources before now Fault = (opened : List S) × (le
     × OpensAll before now (take (length opened) (sample_names sources)) (map (recording_of told faults) opened)
 HasNotOpened told faults sources before now OutOfMemory = now ≡ before
 
+-- how the program ends where a file could not be read or samples could not be opened, with the world's count of faults
+abbrev pub status_without : NotOpened → ℕ → Status
+status_without Fault count = OpenFault count
+status_without OutOfMemory count = Memory
+
 -- the world's count rose where samples could not be opened, and is as it was otherwise
 abbrev pub HasOpenCause : {T : Type 0} → ℕ → ℕ → Result T NotOpened → Type 0
 HasOpenCause before now (Err Fault) = Rose before now
 HasOpenCause before now result = now ≡ before
 
--- what is set of a source by its plan
-abbrev pub row_of : SourcePlan → SourceRow
-row_of plan = record { num = plan.num; den = plan.den; cutoffs = plan.cutoffs; startup = plan.startup; cond = plan.cond }
-
 -- One start of source j, over these samples, and what is printed of it. The source, and with it the count of faults of its samples,
 -- is then as the acts of the start leave it.
 pub record IsTried {S : Type 0} (told : S → Option (List ℕ)) (faults : S → ℕ) (reads : S → ℕ → Option (List ℕ) → S → Type 0) (j : ℕ) (plan : SourcePlan) (samples : S) (after : SourceView S) (line : SourceLine) : Type 0 where
   pub result : Result (Unit {0}) SourceRefusal
-  pub started : HasStarted told faults reads result (opened_view (row_of plan) no_tail samples) after
+  pub started : HasStarted told faults reads result (opened_view (source_row_of plan) no_tail samples) after
   pub printed : line ≡ source_line j plan after.taken result
 
 -- One start of each of the first n sources. What is read of the samples later is not said.

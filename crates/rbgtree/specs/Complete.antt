@@ -1,12 +1,16 @@
 -- When the program ends with its work done: where the words, the files and the input are in order, and nothing fails.
 -- This project's own.
-use Rattle.std.specs.Prelude.{◌≡◌, ◌≤◌, ◌<◌, ◌⊎◌, ℕ, List, [], length, Option, Some, None, Ok}
+use Rattle.std.specs.Prelude.{◌≡◌, ◌≤◌, ◌<◌, ◌⊎◌, ℕ, List, [], length, slice_get, Option, Some, None, Ok}
 use Rattle.rbg_bytes.specs.Streams.{Rose}
 use Rattle.frame_codec.specs.Frames.{Asked, IsScript}
-use Rattle.tree_config.specs.Tree.{Tree, Plan}
+use Rattle.rbg_nodes.specs.Node.{New, seed_len}
+use Rattle.rbg_nodes.specs.Views.{row_of}
+use Rattle.tree_config.specs.Tree.{Tree, Plan, stock_tree}
+use Rattle.tree_config.specs.declared.plan.NodePlan.{NodePlan}
 use Rattle.rbgtree.specs.Files.{Entries, IsFile}
 use Rattle.rbgtree.specs.Check.{HasTried, first_refused}
-use Rattle.rbgtree.specs.Commands.{IsSeedCommand, IsCheckCommand}
+use Rattle.rbgtree.specs.Commands.{IsSeedCommand, IsAnswerCommand, IsCheckCommand}
+use Rattle.rbgtree.specs.Seeds.{planned_file}
 use Rattle.rbgtree.specs.Run.{Outside}
 use Rattle.rbgtree.specs.declared.printed.SourceLine.{SourceLine}
 use Rattle.rbgtree.specs.declared.status.Status.{Status}
@@ -23,18 +27,35 @@ abbrev pub IsToldFile : Option Entries → List ℕ → List ℕ → Type 0
 IsToldFile None name bytes = ⊥
 IsToldFile (Some entries) name bytes = IsFile entries name bytes
 
--- `seed`, with a seed that is long enough, over an input that is whole frames, fewer than 1,048,576 of them
-pub record CanBeServed (words : List (List ℕ)) (before : Outside) : Type 0 where
-  pub name : List ℕ
-  pub command : IsSeedCommand words name
-  pub bytes : List ℕ
-  pub file : IsToldFile before.files name bytes
-  pub long : 48 ≤ length bytes
+-- a node's seed file is told, and has as many bytes as an instantiation takes
+abbrev pub HasLongFile : Option Entries → Option (List ℕ) → NodePlan → Type 0
+HasLongFile files None plan = Unit {0}
+HasLongFile files (Some name) plan = (bytes : List ℕ) × IsToldFile files name bytes × (seed_len (row_of plan) New ≤ length bytes)
+
+-- seed files that are long enough, over an input that is whole frames, fewer than 1,048,576 of them
+pub record CanBeServed (file : NodePlan → Option (List ℕ)) (p : Tree) (before : Outside) : Type 0 where
+  pub seeds : (n : ℕ) (plan : NodePlan) → slice_get p.nodes n ≡ Some plan → HasLongFile before.files (file plan) plan
   pub script : List ℕ
   pub input : before.left ≡ Some script
   pub asked : List Asked
   pub frames : IsScript script asked []
   pub few : length asked < 1048576
+
+-- `seed`, with a seed file that is long enough for the stock plan
+pub record SeedCanBeServed (words : List (List ℕ)) (before : Outside) : Type 0 where
+  pub name : List ℕ
+  pub command : IsSeedCommand words name
+  pub served : CanBeServed (λ (plan : NodePlan). Some name) stock_tree before
+
+-- `answer`, with a configuration that has no fault, and seed files that are long enough for its plan
+pub record AnswerCanBeServed (words : List (List ℕ)) (before : Outside) : Type 0 where
+  pub name : List ℕ
+  pub command : IsAnswerCommand words name
+  pub text : List ℕ
+  pub file : IsToldFile before.files name text
+  pub tree : Tree
+  pub plan : Plan text (Ok tree)
+  pub served : CanBeServed planned_file tree before
 
 -- `check`, with a configuration that has no fault, over samples of which each start is passed
 pub record CanBePassed {S : Type 0} (told : S → Option (List ℕ)) (faults : S → ℕ) (reads : S → ℕ → Option (List ℕ) → S → Type 0) (words : List (List ℕ)) (before now : Outside) : Type 0 where
@@ -49,4 +70,4 @@ pub record CanBePassed {S : Type 0} (told : S → Option (List ℕ)) (faults : S
 -- the work is then done, unless memory is lacking
 abbrev pub IsComplete : {S : Type 0} → (S → Option (List ℕ)) → (S → ℕ) → (S → ℕ → Option (List ℕ) → S → Type 0) → List (List ℕ) → Outside → Outside → Status → Type 0
 IsComplete told faults reads words before now status =
-    NoneRose before now → CanBeServed words before ⊎ CanBePassed told faults reads words before now → (status ≡ Done) ⊎ (status ≡ Memory)
+    NoneRose before now → SeedCanBeServed words before ⊎ AnswerCanBeServed words before ⊎ CanBePassed told faults reads words before now → (status ≡ Done) ⊎ (status ≡ Memory)

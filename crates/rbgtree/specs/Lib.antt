@@ -8,5 +8,6 @@ pub mod Statuses
 pub mod Printed
 pub mod Check
 pub mod Commands
+pub mod Seeds
 pub mod Run
 pub mod Complete

@@ -4,38 +4,21 @@ use Rattle.std.specs.Prelude.{ℕ, zero, suc, ◌+◌, List, [], ◌++◌, lengt
 use Rattle.std.specs.List.{range_with_len}
 use Rattle.rbg_bytes.specs.Kinds.{strength}
 use Rattle.conditioner.specs.Conditioned.{need}
-use Rattle.health_tests.specs.declared.windows.Test.{Test}
-use Rattle.health_tests.specs.declared.windows.Test.TheVariants.{Repetition, Proportion}
-use Rattle.entropy_source.specs.declared.answers.Cause.{Cause}
-use Rattle.entropy_source.specs.declared.answers.Cause.TheVariants.{NotStarted, Alarm}
 use Rattle.entropy_source.specs.declared.answers.SourceRefusal.{SourceRefusal}
-use Rattle.entropy_source.specs.declared.answers.SourceRefusal.TheVariants.{SourceSpent, InError, SourceFault, HealthFailed, WantOfEntropy}
+use Rattle.tree_rules.specs.declared.reply.Reply.{Reply}
+use Rattle.tree_rules.specs.Fits.{done, source_reply}
 use Rattle.tree_config.specs.Graph.{parent_at}
 use Rattle.tree_config.specs.Names.{node_kind_text, drbg_text}
 use Rattle.tree_config.specs.Tree.{Tree, parents}
 use Rattle.tree_config.specs.declared.plan.NodePlan.{NodePlan}
 use Rattle.tree_config.specs.declared.plan.SourcePlan.{SourcePlan}
-use Rattle.rbgtree.specs.declared.printed.Answer.{Answer}
 use Rattle.rbgtree.specs.declared.printed.SourceLine.{SourceLine}
 use Rattle.rbgtree.specs.declared.printed.NodeLine.{NodeLine}
 
-abbrev pub test_number : Test → ℕ
-test_number Repetition = 1
-test_number Proportion = 2
-
--- what a source that isn't running answers: 0 where it wasn't started, else the test that alarmed and at which sample
-abbrev pub error_answer : Cause → Answer
-error_answer NotStarted = record { code = 11; a = 0; b = 0 }
-error_answer (Alarm index test) = record { code = 11; a = test_number test; b = index }
-
--- the answer to a start of source j, as a code with two numbers; 0 is done
-abbrev pub answer_of : {T : Type 0} → ℕ → Result T SourceRefusal → Answer
-answer_of j (Ok done) = record { code = 0; a = 0; b = 0 }
-answer_of j (Err (SourceSpent taken need)) = record { code = 10; a = taken; b = need }
-answer_of j (Err (InError cause)) = error_answer cause
-answer_of j (Err (SourceFault count)) = record { code = 12; a = count; b = j }
-answer_of j (Err (HealthFailed index test)) = record { code = 13; a = index; b = test_number test }
-answer_of j (Err (WantOfEntropy missing)) = record { code = 14; a = missing; b = j }
+-- the answer to a start of source j, as a reply of the tree
+abbrev pub answer_of : {T : Type 0} → ℕ → Result T SourceRefusal → Reply
+answer_of j (Ok started) = done []
+answer_of j (Err why) = source_reply j why
 
 -- what is printed of source j, of which so many samples were taken
 abbrev pub source_line : {T : Type 0} → ℕ → SourcePlan → ℕ → Result T SourceRefusal → SourceLine

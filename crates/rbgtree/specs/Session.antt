@@ -1,59 +1,82 @@
 -- One session over a source and a sink: what stands between two frames, and what stands at its end.
 -- This project's own.
-use Rattle.std.specs.Prelude.{◌≡◌, ◌≤◌, ◌<◌, ℕ, ◌+◌, ◌^◌, List, ◌++◌, length, take, Result}
+use Rattle.std.specs.Prelude.{◌≡◌, ◌<◌, ◌≤◌, ℕ, ◌^◌, List, [], ◌∷◌, ◌++◌, length, take, Result}
 use Rattle.std.specs.declared.option.Option.{Option}
 use Rattle.std.specs.declared.result.Result.TheVariants.{Ok, Err}
+use Rattle.std.specs.List.{AllByRecursion}
 use Rattle.std.specs.Io.KnownBytes.{Appends, Consumes}
-use Rattle.rbg_bytes.specs.Streams.{Rose}
-use Rattle.frame_codec.specs.Frames.{Asked}
+use Rattle.rbg_bytes.specs.Streams.{Rose, TakesAll}
+use Rattle.frame_codec.specs.Grammar.{text_of}
+use Rattle.frame_codec.specs.Frames.{Asked, replies}
 use Rattle.frame_codec.specs.Decoding.{Reads}
-use Rattle.hmac_core.specs.declared.hash.Hash.{Hash}
-use Rattle.hmac_drbg.specs.HmacDrbg.{Working}
-use Rattle.hmac_drbg.specs.State.{working, IsWellFormed}
-use Rattle.rbgtree.specs.Answers.{service, AreRight, answers, state_after_all}
+use Rattle.tree_rules.specs.History.{Entry, Opening}
+use Rattle.tree_rules.specs.Openings.{IsHistory}
+use Rattle.tree_core.specs.Solo.{SoloView, StandAfter}
+use Rattle.rbgtree.specs.Answers.{Answered, IsAsked, AreRight, asked_of, entries_of, reply_to, service}
 use Rattle.rbgtree.specs.Ends.{Ends, written}
 use Rattle.rbgtree.specs.declared.ends.End.{End}
 use Rattle.rbgtree.specs.declared.ends.End.TheVariants.{Bad, ReadFault, WriteFault, Quota}
 use Rattle.rbgtree.specs.declared.session.Progress.{Progress}
 
--- what a session begins with: the DRBG's hash function and working state, the most frames, and what the sink tells
+-- what a session begins with: what its tree was opened over, the opening calls, the most frames, and what the sink tells
 pub record Began : Type 0 where
-  pub hash : Hash
-  pub state : Working
+  pub f : Opening
+  pub o : List Entry
   pub max : ℕ
   pub out : Option (List ℕ)
 
--- what each step keeps, so that the next request can be answered
-pub record IsReady (p : Progress) : Type 0 where
-  pub formed : IsWellFormed p.drbg
-  pub counter : p.drbg.counter ≤ p.frames + 1
+-- what each step keeps, so that the next request can be answered: some bytes were taken, and each frame among them had one call
+pub record IsReady {S : Type 0} (p : Progress S) : Type 0 where
+  pub taken : List ℕ
+  pub rs : List Asked
+  pub reads : Reads taken rs p.decoder
+  pub frames : p.frames ≡ length rs
+  pub calls : p.tree.calls ≡ p.frames
   pub fewer : p.frames < p.max_frames
   pub bound : p.max_frames ≤ 2 ^ 40
 
--- these bytes were taken so far, they are the frames of rs and a part of the next, and what is written is the replies to rs
-pub record Stands (b : Began) (taken : List ℕ) (rs : List Asked) (p : Progress) (out : Option (List ℕ)) : Type 0 where
-  pub reads : Reads taken rs p.decoder
-  pub frames : p.frames ≡ length rs
+-- These bytes were taken so far, they are the frames of the requests of es and a part of the next, the entries of es are right and the
+-- tree stands after them, and what is written is their replies.
+pub record Stands {S : Type 0} (told : S → Option (List ℕ)) (faults : S → ℕ) (b : Began) (taken : List ℕ) (es : List Answered) (p : Progress S) (out : Option (List ℕ)) : Type 0 where
+  pub reads : Reads taken (asked_of es) p.decoder
+  pub asked : AllByRecursion IsAsked es
+  pub history : IsHistory b.f b.o (entries_of es)
+  pub frames : p.frames ≡ length es
   pub max : p.max_frames ≡ b.max
-  pub hash : p.drbg.hash ≡ b.hash
-  pub state : working p.drbg ≡ state_after_all b.hash b.state rs
-  pub text : Appends b.out out (written service (answers b.hash b.state rs))
+  pub plan : b.f.plan ≡ p.tree.plan
+  pub stand : StandAfter told faults b.f b.o (entries_of es) p.tree.nodes p.tree.sources
+  pub text : Appends b.out out (written service es)
+
+-- a request was answered behind the entries h: its entry is right there, and the tree stands after it
+pub record IsAnswered {S : Type 0} (told : S → Option (List ℕ)) (faults : S → ℕ) (f : Opening) (o h : List Entry) (asked : Asked) (t : SoloView S) : Type 0 where
+  pub entry : Entry
+  pub is : IsAsked (record { asked = asked; entry = entry })
+  pub history : IsHistory f o (h ++ entry ∷ [])
+  pub stand : StandAfter told faults f o (h ++ entry ∷ []) t.nodes t.sources
+
+-- these bytes are the reply frame to a request that was answered so; and they were written, or a front of them where that failed
+abbrev pub Replies : {S : Type 0} → (S → Option (List ℕ)) → (S → ℕ) → Opening → List Entry → List Entry → Asked → SoloView S → List ℕ → Type 0
+Replies told faults f o h asked t frame = (a : IsAnswered told faults f o h asked t) × (frame ≡ text_of replies (reply_to asked.head a.entry))
+
+abbrev pub WritesReply : {S T E : Type 0} → (S → Option (List ℕ)) → (S → ℕ) → Opening → List Entry → List Entry → Asked → SoloView S → Option (List ℕ) → Option (List ℕ) → Result T E → Type 0
+WritesReply told faults f o h asked t before now result =
+    (a : IsAnswered told faults f o h asked t) × TakesAll before now result (text_of replies (reply_to asked.head a.entry))
 
 -- the session has ended by a row of the table, whatever bytes follow those taken
 abbrev pub Stops : Began → List ℕ → Option (List ℕ) → End → Type 0
 Stops b taken out end =
     (text : List ℕ) × Appends b.out out text
-    × ((more : List ℕ) (left : Option (List ℕ)) → Ends service (AreRight b.hash b.state) b.max end (taken ++ more) left text)
+    × ((more : List ℕ) (left : Option (List ℕ)) → Ends service (AreRight b.f b.o) b.max end (taken ++ more) left text)
 
 -- after bytes of a piece the session stands so, or it has ended
-abbrev pub GoesOn : Began → List ℕ → List ℕ → Progress → Option (List ℕ) → Result ℕ End → Type 0
-GoesOn b taken bytes p out (Ok count) = (rs : List Asked) × Stands b (taken ++ take count bytes) rs p out
-GoesOn b taken bytes p out (Err end) = Stops b (taken ++ bytes) out end
+abbrev pub GoesOn : {S : Type 0} → (S → Option (List ℕ)) → (S → ℕ) → Began → List ℕ → List ℕ → Progress S → Option (List ℕ) → Result ℕ End → Type 0
+GoesOn told faults b taken bytes p out (Ok count) = (es : List Answered) × Stands told faults b (taken ++ take count bytes) es p out
+GoesOn told faults b taken bytes p out (Err end) = Stops b (taken ++ bytes) out end
 
 -- after all bytes of a piece the session stands so, or it has ended
-abbrev pub PassesOver : {T : Type 0} → Began → List ℕ → Progress → Option (List ℕ) → Result T End → Type 0
-PassesOver b taken p out (Ok done) = (rs : List Asked) × Stands b taken rs p out
-PassesOver b taken p out (Err end) = Stops b taken out end
+abbrev pub PassesOver : {S T : Type 0} → (S → Option (List ℕ)) → (S → ℕ) → Began → List ℕ → Progress S → Option (List ℕ) → Result T End → Type 0
+PassesOver told faults b taken p out (Ok done) = (es : List Answered) × Stands told faults b taken es p out
+PassesOver told faults b taken p out (Err end) = Stops b taken out end
 
 -- the sink's count rose where a write failed, and is as it was otherwise
 abbrev pub HasWriteCause : ℕ → ℕ → End → Type 0
@@ -77,8 +100,8 @@ IsPieceEnd (WriteFault count) = Unit {0}
 IsPieceEnd (Quota frames) = Unit {0}
 IsPieceEnd end = ⊥
 
--- a whole session: some bytes were taken and some text was written, as the table of ends says
-abbrev pub Session : Hash → Working → ℕ → End → Option (List ℕ) → Option (List ℕ) → Option (List ℕ) → Option (List ℕ) → Type 0
-Session h s max end left_before left_now out_before out_now =
+-- a whole session behind the opening calls o: some bytes were taken and some text was written, as the table of ends says
+abbrev pub Session : Opening → List Entry → ℕ → End → Option (List ℕ) → Option (List ℕ) → Option (List ℕ) → Option (List ℕ) → Type 0
+Session f o max end left_before left_now out_before out_now =
     (taken text : List ℕ) × Consumes left_before left_now taken × Appends out_before out_now text
-    × Ends service (AreRight h s) max end taken left_now text
+    × Ends service (AreRight f o) max end taken left_now text

@@ -3,24 +3,35 @@
 ghost use Rattle.std.specs.Prelude.{◌≡◌, ◌≤◌, length, take, map, IfOk, IfErr};
 ghost use Rattle.rbg_bytes.specs.Streams.{HasCause, TakesAll};
 ghost use Rattle.tree_config.specs.Planned.{IsSource};
+ghost use Rattle.tree_rules.specs.Slots.{source_row_of};
 ghost use Rattle.health_tests.specs.Numbers.{no_tail};
 ghost use Rattle.entropy_source.specs.Views.{SourceView, opened_view, HasStarted};
 ghost use Rattle.rbgtree.specs.Recordings.{recording_of};
-ghost use Rattle.rbgtree.specs.Check.{sample_names, OpensAll, HasOpenCause, HasNotOpened, IsTried, AreTried, row_of, first_refused, printed};
-ghost use Rattle.rbgtree.specs.Printed.{test_number, error_answer, answer_of, node_lines};
+ghost use Rattle.rbgtree.specs.Check.{sample_names, OpensAll, HasOpenCause, HasNotOpened, IsTried, AreTried, first_refused, printed, status_without};
+ghost use Rattle.rbgtree.specs.Printed.{answer_of, node_lines};
 
-use crate::printed::{Answer, NodeLine, SourceLine, print_node, print_sources};
+use crate::printed::{NodeLine, SourceLine, print_node, print_sources};
+use crate::status::Status;
 use crate::world::World;
 use conditioner::need;
-use entropy_source::{Cause, EntropySource, SourceRefusal, SourceRow};
-use health_tests::Test;
+use entropy_source::{EntropySource, SourceRefusal, SourceRow};
 use rbg_bytes::{ByteSink, Failed};
 use sample_source::Samples;
 use std::alloc::Global;
+use tree_acts::source_reply;
 use tree_config::{SourcePlan, TreePlan};
+use tree_core::Reply;
 
 /// The most sources of a plan.
 pub const MAX_SOURCES: usize = 4;
+
+/// Done, without bytes.
+const DONE: Reply = Reply {
+    code: 0,
+    a: 0,
+    b: 0,
+    len: 0,
+};
 
 /// A line of which nothing is filled in yet.
 pub const BLANK: SourceLine = SourceLine {
@@ -31,58 +42,40 @@ pub const BLANK: SourceLine = SourceLine {
     startup: 0,
     block: 0,
     taken: 0,
-    answer: Answer {
-        code: 0,
-        a: 0,
-        b: 0,
-    },
+    answer: DONE,
 };
 
-/// Why the samples of a plan were not opened.
+/// Why a file was not read, or samples were not opened.
 pub enum NotOpened {
     Fault,
     OutOfMemory,
 }
 
-fn test_number(test: Test) -> u64
-    ensures { result ≡ test_number test }
+/// How the program ends where a file could not be read or samples could not be opened.
+pub fn not_opened<W: World>(why: NotOpened, world: &W) -> Status
+    ensures { result ≡ status_without why (W.faults world.now) }
 {
-    match test {
-        Test::Repetition => 1,
-        Test::Proportion => 2,
+    match why {
+        NotOpened::OutOfMemory => Status::Memory,
+        NotOpened::Fault => Status::OpenFault {
+            count: world.fault_count(),
+        },
     }
 }
 
-// The code and the two numbers of a source that isn't running.
-fn error_answer(cause: Cause) -> Answer
-    ensures { result ≡ error_answer cause }
-{
-    let (a, b) = match cause {
-        Cause::NotStarted => (0, 0),
-        Cause::Alarm { index, test } => (test_number(test), index),
-    };
-    Answer { code: 11, a, b }
-}
-
-// The code and the two numbers of a start of the source with this number.
-fn answer_of(number: u8, started: Result<(), SourceRefusal>) -> Answer
+// The answer to a start of the source with this number.
+fn answer_of(number: u8, started: Result<(), SourceRefusal>) -> Reply
     ensures { result ≡ answer_of number started }
 {
-    let source = u64::from(number);
-    let (code, a, b) = match started {
-        Ok(()) => (0, 0, 0),
-        Err(SourceRefusal::SourceSpent { taken, need }) => (10, taken, need),
-        Err(SourceRefusal::InError { cause }) => return error_answer(cause),
-        Err(SourceRefusal::SourceFault { count }) => (12, count, source),
-        Err(SourceRefusal::HealthFailed { index, test }) => (13, index, test_number(test)),
-        Err(SourceRefusal::WantOfEntropy { missing }) => (14, u64::from(missing), source),
-    };
-    Answer { code, a, b }
+    match started {
+        Ok(()) => DONE,
+        Err(why) => source_reply(number, why),
+    }
 }
 
 // What is set of a source by its plan.
 fn row_of(plan: &SourcePlan) -> SourceRow
-    ensures { result ≡ row_of plan.now }
+    ensures { result ≡ source_row_of plan.now }
 {
     SourceRow {
         num: plan.num,
@@ -109,7 +102,7 @@ fn try_source<S: Samples>(
     source: &mut EntropySource<S>,
 ) -> SourceLine
     requires range { IsSource plan.now }
-    requires opened { source.old ≡ opened_view (row_of plan.now) no_tail source.old.samples }
+    requires opened { source.old ≡ opened_view (source_row_of plan.now) no_tail source.old.samples }
     ensures { IsTried S.told S.faults S.reads number plan.now source.old.samples source.new result }
 {
     let answer = answer_of(number, start_fresh(source));

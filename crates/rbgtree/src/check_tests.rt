@@ -8,9 +8,11 @@ use std::process::Abort;
 use std::test::Fail;
 use tree_config::{ConfigFault, Field, Place};
 
-const SOURCE: &str = "[[source]]\nsamples = \"ramp\"\nnum = 8\nden = 1\nrct = 4\napt = 257\n";
+pub(crate) const SOURCE: &str =
+    "[[source]]\nsamples = \"ramp\"\nnum = 8\nden = 1\nrct = 4\napt = 257\n";
 
-const ROOT: &str = "[[node]]\nkind = \"rbg2\"\ndrbg = \"hmac-sha-256\"\ninterval = 2\nsource = 0\n";
+pub(crate) const ROOT: &str =
+    "[[node]]\nkind = \"rbg2\"\ndrbg = \"hmac-sha-256\"\ninterval = 2\nsource = 0\n";
 
 const CHILD: &str =
     "[[node]]\nkind = \"child\"\ndrbg = \"ctr-aes-256\"\ninterval = 1\nparent = 0\n";
@@ -24,13 +26,13 @@ const NEVER: u64 = u64::MAX;
 /// The samples of a source: how many there are, from which place on four of them are 9, and which read fails. The sample at any
 /// other place is its number modulo 251.
 #[derive(Clone, Copy)]
-struct Ramp {
-    len: u32,
-    nines: u32,
-    fail: u64,
+pub(crate) struct Ramp {
+    pub(crate) len: u32,
+    pub(crate) nines: u32,
+    pub(crate) fail: u64,
 }
 
-const RAMP: Ramp = Ramp {
+pub(crate) const RAMP: Ramp = Ramp {
     len: 2000,
     nines: 5000,
     fail: NEVER,
@@ -51,7 +53,7 @@ const PLAIN: Outside = Outside {
 };
 
 // The samples of a ramp.
-fn samples_of(rt: &(impl Abort + AllocGlobal), ramp: &Ramp) -> Result<Faulty, Fail> {
+pub(crate) fn samples_of(rt: &(impl Abort + AllocGlobal), ramp: &Ramp) -> Result<Faulty, Fail> {
     let alloc = rt.alloc();
     let mut samples = Vec::new(alloc);
     for place in 0..ramp.len {

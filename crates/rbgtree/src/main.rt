@@ -1,6 +1,8 @@
 //! A random bit generator that answers request frames.
 //!
 //! - `top`: what each command does, `run`;
+//! - `files` and `seeds`: what is read from files, the plan and its nodes' seeds;
+//! - `serve`: a tree over them, and one session on it;
 //! - `check`: one start of each source of a configuration, and `printed`, the lines that are printed of it;
 //! - `session`: one session, in which frames are read, answered and written one after another;
 //! - `answers`: the reply frame to one request;
@@ -12,10 +14,13 @@
 mod answers;
 mod check;
 mod ends;
+mod files;
 mod host;
 mod lines;
 mod memory_world;
 mod printed;
+mod seeds;
+mod serve;
 mod session;
 mod status;
 mod top;
@@ -59,6 +64,8 @@ fn main(rt: HostRuntime) -> ExitCode {
     ExitCode::from(status.number())
 }
 
+#[cfg(test)]
+mod answer_tests;
 #[cfg(test)]
 mod check_tests;
 #[cfg(test)]

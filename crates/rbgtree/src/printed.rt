@@ -6,14 +6,7 @@ ghost use Rattle.rbgtree.specs.Printed.{source_text, node_text};
 
 use rbg_bytes::{ByteSink, Failed, Kind, Line};
 use tree_config::{NodeKind, drbg_name};
-
-/// The answer to a call as a code with two numbers; code 0 is done.
-#[derive(Clone, Copy)]
-pub struct Answer {
-    pub code: u8,
-    pub a: u64,
-    pub b: u64,
-}
+use tree_core::Reply;
 
 /// What is printed of a source: its number, its cutoffs, window and start-up, the samples of a block and those taken since it
 /// was opened, and the answer to its start.
@@ -26,7 +19,7 @@ pub struct SourceLine {
     pub startup: u32,
     pub block: u32,
     pub taken: u64,
-    pub answer: Answer,
+    pub answer: Reply,
 }
 
 /// What is printed of a node: its number, its kind and that of its DRBG, its reseed interval, and how deep it stands.

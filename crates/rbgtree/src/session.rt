@@ -2,49 +2,49 @@
 ghost use Rattle.std.specs.Prelude.{◌≡◌, ◌≤◌, ◌<◌, ◌+◌, ◌^◌, ◌++◌, [], List, ℕ, length, OnOk, IfOk, IfErr};
 ghost use Rattle.rbg_bytes.specs.Streams.{HasCause, TakesAll};
 ghost use Rattle.frame_codec.specs.Rows.{Takes};
-ghost use Rattle.frame_codec.specs.Frames.{Asked, replies, request_fields, request_numbers};
-ghost use Rattle.frame_codec.specs.Grammar.{text_of};
-ghost use Rattle.hmac_drbg.specs.State.{working, IsWellFormed};
+ghost use Rattle.frame_codec.specs.Frames.{request_fields, request_numbers};
+ghost use Rattle.tree_rules.specs.History.{Entry, Opening};
+ghost use Rattle.tree_rules.specs.Openings.{IsHistory};
+ghost use Rattle.tree_core.specs.Solo.{StandAfter};
 ghost use Rattle.rbgtree.specs.Ends.{malformed};
-ghost use Rattle.rbgtree.specs.Answers.{reply_to, state_after};
-ghost use Rattle.rbgtree.specs.Session.{Began, IsReady, Stands, GoesOn, PassesOver, HasReadCause, HasWriteCause, HasPieceCause, IsPieceEnd, Session};
+ghost use Rattle.rbgtree.specs.Answers.{Answered};
+ghost use Rattle.rbgtree.specs.Session.{Began, IsReady, Stands, GoesOn, PassesOver, WritesReply, HasReadCause, HasWriteCause, HasPieceCause, IsPieceEnd, Session};
 
-use crate::answers::{answer, malformed_frame, reply_len};
+use crate::answers::{answer, malformed_frame};
 use crate::ends::End;
 use frame_codec::{Decoder, Request, Step};
-use hmac_drbg::HmacDrbg;
 use rbg_bytes::{ByteSink, ByteSource, Failed};
+use sample_source::Samples;
+use tree_core::SoloTree;
 
 /// What a session has between two bytes of its input.
 #[derive(Drop)]
-pub struct Progress {
+pub struct Progress<S: Samples> {
     pub decoder: Decoder,
     pub frames: u64,
     pub max_frames: u64,
-    pub drbg: HmacDrbg,
+    pub tree: SoloTree<S>,
 }
 
-// Answers a request, in one write.
-fn reply<O: ByteSink>(
-    drbg: &mut HmacDrbg,
+// Answers a request with its string, in one write.
+fn reply<S: Samples, O: ByteSink>(
+    tree: &mut SoloTree<S>,
     request: &Request,
+    string: &[u8],
     buffer: &mut [u8],
     output: &mut O,
 ) -> Result<(), Failed>
     requires served { Takes request_fields [] (request_numbers request.now) }
-    requires formed { IsWellFormed drbg.old }
-    requires counter { drbg.old.counter ≤ 2 ^ 48 }
+    requires few { tree.old.calls < 2 ^ 40 }
     requires room { length buffer.old ≡ 65564 }
-    ensures bytes { TakesAll (O.out output.old) (O.out output.new) result (text_of replies (reply_to drbg.old.hash (working drbg.old) request.now)) }
+    ensures replies { (f : Opening) (o h : List Entry) → IsHistory f o h → f.plan ≡ tree.old.plan → StandAfter S.told S.faults f o h tree.old.nodes tree.old.sources →
+        WritesReply S.told S.faults f o h (record { head = request.now; string = string.now }) tree.new (O.out output.old) (O.out output.new) result }
     ensures cause { HasCause (O.faults output.old) (O.faults output.new) result }
-    ensures state { working drbg.new ≡ state_after drbg.old.hash (working drbg.old) request.now }
-    ensures hash { drbg.new.hash ≡ drbg.old.hash }
-    ensures formed { IsWellFormed drbg.new }
-    ensures counter { drbg.new.counter ≤ drbg.old.counter + 1 }
+    ensures plan { tree.new.plan ≡ tree.old.plan }
+    ensures calls { tree.new.calls ≡ tree.old.calls + 1 }
 {
-    let frame = &mut buffer[..reply_len(request)];
-    answer(drbg, request, frame);
-    output.write_all(frame)
+    let len = answer(tree, request, string, buffer);
+    output.write_all(&buffer[..len])
 }
 
 // Tells the caller that a byte is bad, and says how the session ends with that.
@@ -55,7 +55,7 @@ fn refuse<O: ByteSink>(offset: u64, why: u8, output: &mut O) -> Result<(), Faile
     output.write_all(&malformed_frame(offset, why))
 }
 
-impl Progress {
+impl<S: Samples> Progress<S> {
     // Takes bytes up to the end of a frame and answers it, or, where they end within a frame, all of them. Says how many.
     fn take_frame<O: ByteSink>(
         &mut self,
@@ -67,10 +67,11 @@ impl Progress {
         requires some { 0 < length bytes.now }
         requires offset { self.old.decoder.offset + length bytes.now ≤ 2 ^ 62 }
         requires room { length buffer.old ≡ 65564 }
-        ensures goes { (b : Began) (taken : List ℕ) (rs : List Asked) → Stands b taken rs self.old (O.out output.old) →
-            GoesOn b taken bytes.now self.new (O.out output.new) result }
+        ensures goes { (b : Began) (taken : List ℕ) (es : List Answered) → Stands S.told S.faults b taken es self.old (O.out output.old) →
+            GoesOn S.told S.faults b taken bytes.now self.new (O.out output.new) result }
         ensures ready { OnOk result (IsReady self.new) }
         ensures count { IfOk result (λ count. (0 < count) × (count ≤ length bytes.now) × (self.new.decoder.offset ≡ self.old.decoder.offset + count)) }
+        ensures max { OnOk result (self.new.max_frames ≡ self.old.max_frames) }
         ensures cause { HasPieceCause (O.faults output.old) (O.faults output.new) result }
         ensures kind { IfErr result IsPieceEnd }
     {
@@ -83,7 +84,13 @@ impl Progress {
                     count: output.fault_count(),
                 }),
             },
-            Step::Whole(request) => match reply(&mut self.drbg, &request, buffer, output) {
+            Step::Whole(request) => match reply(
+                &mut self.tree,
+                &request,
+                self.decoder.string(),
+                buffer,
+                output,
+            ) {
                 Ok(()) => {
                     self.frames += 1;
                     if self.frames == self.max_frames {
@@ -110,10 +117,11 @@ impl Progress {
         requires ready { IsReady self.old }
         requires offset { self.old.decoder.offset + length piece.now ≤ 2 ^ 62 }
         requires room { length buffer.old ≡ 65564 }
-        ensures goes { (b : Began) (taken : List ℕ) (rs : List Asked) → Stands b taken rs self.old (O.out output.old) →
-            PassesOver b (taken ++ piece.now) self.new (O.out output.new) result }
+        ensures goes { (b : Began) (taken : List ℕ) (es : List Answered) → Stands S.told S.faults b taken es self.old (O.out output.old) →
+            PassesOver S.told S.faults b (taken ++ piece.now) self.new (O.out output.new) result }
         ensures ready { OnOk result (IsReady self.new) }
         ensures offset { OnOk result (self.new.decoder.offset ≡ self.old.decoder.offset + length piece.now) }
+        ensures max { OnOk result (self.new.max_frames ≡ self.old.max_frames) }
         ensures cause { HasPieceCause (O.faults output.old) (O.faults output.new) result }
         ensures kind { IfErr result IsPieceEnd }
     {
@@ -128,23 +136,22 @@ impl Progress {
     }
 }
 
-/// Answers the frames of a source from a DRBG that was just instantiated, at most `max_frames` of them, and says how that
-/// ended. A read asks for as many bytes as the piece has room for; each reply is put together in the buffer and is one write.
+/// Answers the frames of a source from a tree that was just opened, at most `max_frames` of them, and says how that ended. A read asks for as many bytes as the piece has room for; each reply is put together in the buffer and is one write.
 /// No memory is taken.
-pub fn session<I: ByteSource, O: ByteSink>(
-    drbg: HmacDrbg,
+pub fn session<S: Samples, I: ByteSource, O: ByteSink>(
+    tree: SoloTree<S>,
     max_frames: u64,
     piece: &mut [u8],
     buffer: &mut [u8],
     input: &mut I,
     output: &mut O,
 ) -> End
-    requires formed { IsWellFormed drbg }
-    requires counter { drbg.counter ≡ 1 }
+    requires calls { tree.calls ≡ 0 }
     requires frames { (1 ≤ max_frames) × (max_frames ≤ 2 ^ 40) }
     requires piece { length piece.old ≡ 65536 }
     requires buffer { length buffer.old ≡ 65564 }
-    ensures table { Session drbg.hash (working drbg) max_frames result (I.left input.old) (I.left input.new) (O.out output.old) (O.out output.new) }
+    ensures table { (f : Opening) (o : List Entry) → IsHistory f o [] → f.plan ≡ tree.plan → StandAfter S.told S.faults f o [] tree.nodes tree.sources →
+        Session f o max_frames result (I.left input.old) (I.left input.new) (O.out output.old) (O.out output.new) }
     ensures read { HasReadCause (I.faults input.old) (I.faults input.new) result }
     ensures write { HasWriteCause (O.faults output.old) (O.faults output.new) result }
 {
@@ -152,7 +159,7 @@ pub fn session<I: ByteSource, O: ByteSink>(
         decoder: Decoder::fresh(),
         frames: 0,
         max_frames,
-        drbg,
+        tree,
     };
     'reads: loop {
         let count = match input.read(piece) {

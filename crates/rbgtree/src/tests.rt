@@ -6,13 +6,13 @@ use crate::memory_world::MemWorld;
 use crate::session::session;
 use crate::status::Status;
 use crate::top::run;
-use hmac_drbg::{Hash, HmacDrbg};
 use rbg_bytes::{ByteSink, ByteSource, Failed, MemSink, MemSource};
 use sample_source::Recorded;
 use sha2::{Digest, Sha256};
 use std::process::Abort;
 use std::test::Fail;
-use tree_config::{ConfigFault, Field, Place};
+use tree_config::{ConfigFault, Field, Place, TreePlan};
+use tree_core::SoloTree;
 
 /// What a run is over: how many bytes of 00, 01 and so on the file `s` has, how many bytes one read of the input gives, and
 /// which calls of the world, the input and the output fail.
@@ -219,7 +219,7 @@ fn words_and_seeds_that_are_refused(rt: HostRuntime) -> Result<(), Fail> {
         &[],
         &["seed"],
         &["answer"],
-        &["answer", "s"],
+        &["answer", "s", "s"],
         &["seed", "s", "s"],
     ];
     for words in usages {
@@ -279,8 +279,15 @@ fn the_quota_ends_a_session(rt: HostRuntime) -> Result<(), Fail> {
     let mut sink = MemSink::new(vec![in alloc; 0u8; 112]?, Vec::new(alloc));
     let mut piece = vec![in alloc; 0u8; 65_536]?;
     let mut buffer = vec![in alloc; 0u8; 65_564]?;
-    let drbg = HmacDrbg::instantiate(Hash::Sha256, &[1; 32], &[2; 16], &[]);
-    let end = session(drbg, 3, &mut piece, &mut buffer, &mut source, &mut sink);
+    let plan = TreePlan::stock(alloc)?;
+    let sources: Vec<Recorded> = Vec::new(alloc);
+    let mut seeds = Vec::new(alloc);
+    seeds.push(vec![in alloc; 1u8; 48]?)?;
+    let tree = match SoloTree::open(alloc, plan, sources, seeds) {
+        Ok(tree) => tree,
+        Err(why) => panic!(&rt; "not opened: {why:?}"),
+    };
+    let end = session(tree, 3, &mut piece, &mut buffer, &mut source, &mut sink);
     assert_eq!(rt; end, End::Quota { frames: 3 });
     assert_eq!(rt; sink.written().len(), 84);
     Ok(())

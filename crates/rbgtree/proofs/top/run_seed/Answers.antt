@@ -1,30 +1,25 @@
-use Rattle.std.proofs.Common.{◌≡◌, ℕ, List, [], length, take, drop, subst, ap, ◌∙◌, arith}
-use Rattle.std.proofs.lemmas.List.{take_all, length-drop}
-use Rattle.hmac_core.specs.declared.hash.Hash.{Hash}
-use Rattle.hmac_core.specs.declared.hash.Hash.TheVariants.{Sha256}
-use Rattle.hmac_drbg.specs.HmacDrbg.{Working, instantiated}
-use Rattle.hmac_drbg.specs.State.{working}
-use Rattle.rbgtree.specs.Session.{Session}
-use Rattle.rbgtree.specs.Run.{seeded}
-use Rattle.rbgtree.proofs.Served.{ran_served, cause_served}
+use Rattle.std.proofs.Common.{List, ℕ, map, subst, inr}
+use Rattle.std.specs.Prelude.{Option, Some}
+use Rattle.tree_config.specs.Tree.{Tree}
+use Rattle.tree_config.specs.declared.plan.NodePlan.{NodePlan}
+use Rattle.rbgtree.specs.Run.{Outside, RanOver, outside_of}
+use Rattle.rbgtree.specs.Seeds.{AreSeeds}
+use Rattle.rbgtree.proofs.Served.{same_outside}
 use Rattle.rbgtree.proofs.top.run_seed.Goals as goal
 
-pub returns-clause-ran : goal.returns-clause-ran
-returns-clause-ran g c =
-    let seed = c.read_front.new.front in
-    let len : length c.read_front.new.front ≡ 48 = c.read_front.auto.front in
-    let full : c.in-Ok-read_front.have ≡ 48 = omega (arith, c.if-have-lt-SEED_LEN.false, c.in-Ok-read_front.ensures.bound) in
-    let nonce : take 16 (drop 32 c.read_front.new.front) ≡ drop 32 c.read_front.new.front = take_all 16 (drop 32 c.read_front.new.front) (omega (arith, length-drop 32 c.read_front.new.front, len)) in
-    let state : working c.instantiate-drbg.result ≡ seeded c.read_front.new.front =
-    c.instantiate-drbg.ensures.state ∙ ap (λ (n : List ℕ). instantiated Sha256 (take 32 seed) n []) nonce in
-    let table = subst (λ (h : Hash). Session h (working c.instantiate-drbg.result) 1048576 c.session.result (g.I.ByteSource.left c.args.input.now) (g.I.ByteSource.left c.session.new.input) (g.O.ByteSink.out c.args.output.now) (g.O.ByteSink.out c.session.new.output))
-    c.instantiate-drbg.ensures.hash c.session.ensures.table in
-    rw (c.of.ensures) (ran_served _ _ c.args.name.now c.session.result (
-      seed,
-      len,
-      c.in-Ok-read_front.ensures.full full,
-      subst (λ (w : Working). Session Sha256 w 1048576 c.session.result (g.I.ByteSource.left c.args.input.now) (g.I.ByteSource.left c.session.new.input) (g.O.ByteSink.out c.args.output.now) (g.O.ByteSink.out c.session.new.output)) state table,
-    ))
-
-pub returns-clause-cause : goal.returns-clause-cause
-returns-clause-cause g c = rw (c.of.ensures) (cause_served _ _ c.session.result c.in-Ok-read_front.ensures.cause.kept c.session.ensures.read c.session.ensures.write)
+pub returns-in-Ok-stock_seed-clause-ran : goal.returns-in-Ok-stock_seed-clause-ran
+returns-in-Ok-stock_seed-clause-ran g c =
+    let at = outside_of g.W.World.files g.W.World.recordings g.W.World.faults g.I.ByteSource.left g.I.ByteSource.faults g.O.ByteSink.out g.O.ByteSink.faults in
+    let told = g.W.Samples.Samples.told in
+    let faults = g.W.Samples.Samples.faults in
+    let seeds = map (λ s. s.items) c.in-Ok-stock_seed.seeds.items in
+    let now = at c.serve.new.world c.serve.new.input c.serve.new.output in
+    let before = at c.args.world.now c.args.input.now c.args.output.now in
+    let same = same_outside _ _ _ _ (g.I.ByteSource.left c.args.input.now) (g.O.ByteSink.out c.args.output.now) _ _ (g.I.ByteSource.faults c.args.input.now) (g.O.ByteSink.faults c.args.output.now)
+    c.in-Ok-stock_seed.ensures.files c.in-Ok-stock_seed.ensures.recordings c.in-Ok-stock_seed.ensures.cause in
+    let ran = subst (λ (o : Outside). RanOver told faults c.in-Ok.plan seeds o now c.serve.result) same c.serve.ensures.ran in
+    inr (
+      seeds,
+      subst (λ (t : Tree). AreSeeds (g.W.World.files c.args.world.now) (λ (plan : NodePlan). Some c.args.name.now) t.nodes seeds) c.in-Ok.ensures c.in-Ok-stock_seed.ensures.seeds,
+      subst (λ (t : Tree). RanOver told faults t seeds before now c.serve.result) c.in-Ok.ensures ran,
+    )

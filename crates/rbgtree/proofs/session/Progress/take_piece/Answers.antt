@@ -1,5 +1,5 @@
 use Rattle.std.proofs.Common.{◌++◌, ◌∙◌, take, List, ℕ, arith, length-drop}
-use Rattle.frame_codec.specs.Frames.{Asked}
+use Rattle.rbgtree.specs.Answers.{Answered}
 use Rattle.rbgtree.specs.Session.{Began, Stands}
 use Rattle.rbgtree.proofs.Pieces.{taken_more, stopped_within}
 use Rattle.rbgtree.proofs.session.Progress.take_piece.Goals as goal
@@ -10,13 +10,14 @@ frames-preserved g c = (
   omega (arith, c.in-Ok.ensures.count.1, length-drop c.frames.at c.args.piece.now, c.frames-test.true),
   omega (arith, c.in-Ok.ensures.count.2, c.frames.invariant.2),
   c.in-Ok.ensures.cause ∙ c.frames.invariant.3,
-  λ (b : Began) (taken : List ℕ) (rs : List Asked) (st : Stands b taken rs c.args.self.now (g.O.ByteSink.out c.args.output.now)).
-      let so_far = c.frames.invariant.4 b taken rs st in
+  c.in-Ok.ensures.max ∙ c.frames.invariant.4,
+  λ (b : Began) (taken : List ℕ) (es : List Answered) (st : Stands g.S.Samples.told g.S.Samples.faults b taken es c.args.self.now (g.O.ByteSink.out c.args.output.now)).
+      let so_far = c.frames.invariant.5 b taken es st in
       let on = c.in-Ok.ensures.goes b (taken ++ take c.frames.at c.args.piece.now) so_far.0 so_far.1 in
-      (on.0, taken_more b taken c.args.piece.now on.0 c.frames.at c.in-Ok.count _ _ on.1),
+      (on.0, taken_more g.S.Samples.told g.S.Samples.faults b taken c.args.piece.now on.0 c.frames.at c.in-Ok.count _ _ on.1),
 )
 
 pub returns-in-Err-clause-goes : goal.returns-in-Err-clause-goes
-returns-in-Err-clause-goes g c b taken rs st =
-    let so_far = c.frames.invariant.4 b taken rs st in
+returns-in-Err-clause-goes g c b taken es st =
+    let so_far = c.frames.invariant.5 b taken es st in
     stopped_within b taken c.args.piece.now c.frames.at _ c.in-Err.end (c.in-Err.ensures.goes b (taken ++ take c.frames.at c.args.piece.now) so_far.0 so_far.1)

@@ -1,5 +1,5 @@
 use Rattle.std.proofs.Common.{◌≡◌, ◌≤◌, ◌+◌, ◌-◌, ◌++◌, take, length, List, ℕ}
-use Rattle.frame_codec.specs.Frames.{Asked}
+use Rattle.rbgtree.specs.Answers.{Answered}
 use Rattle.rbgtree.specs.Session.{Began, IsReady, Stands}
 use Rattle.rbgtree.proofs.session.Progress.take_piece.Given as goal
 
@@ -9,8 +9,9 @@ invariant-frames g l =
     × (l.at ≤ length l.piece)
     × (l.self.decoder.offset ≡ l.fn.self.decoder.offset + l.at)
     × (g.O.ByteSink.faults l.output ≡ g.O.ByteSink.faults l.fn.output)
-    × ((b : Began) (taken : List ℕ) (rs : List Asked) → Stands b taken rs l.fn.self (g.O.ByteSink.out l.fn.output) →
-    (rs' : List Asked) × Stands b (taken ++ take l.at l.piece) rs' l.self (g.O.ByteSink.out l.output))
+    × (l.self.max_frames ≡ l.fn.self.max_frames)
+    × ((b : Began) (taken : List ℕ) (es : List Answered) → Stands g.S.Samples.told g.S.Samples.faults b taken es l.fn.self (g.O.ByteSink.out l.fn.output) →
+    (es' : List Answered) × Stands g.S.Samples.told g.S.Samples.faults b (taken ++ take l.at l.piece) es' l.self (g.O.ByteSink.out l.output))
 
 abbrev pub decreases-frames : goal.decreases-frames
 decreases-frames g l = length l.piece - l.at

@@ -5,7 +5,7 @@ use Rattle.tree_config.specs.Tree.{Tree, Plan}
 use Rattle.tree_config.specs.declared.fault.ConfigFault.{ConfigFault}
 use Rattle.tree_config.specs.declared.fault.PlanRefusal.{PlanRefusal}
 use Rattle.rbgtree.proofs.Plans.{plan_of_file}
-use Rattle.rbgtree.proofs.top.plan_in.Goals as goal
+use Rattle.rbgtree.proofs.files.plan_in.Goals as goal
 
 pub returns-in-Ok-read-clause-plan : goal.returns-in-Ok-read-clause-plan
 returns-in-Ok-read-clause-plan g c =
