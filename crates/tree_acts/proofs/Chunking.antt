@@ -97,14 +97,14 @@ module _ (row : SourceRow) (found : List ℕ → List ℕ → Option Alarm) wher
         by (Err x) h ih = h
 
 module _ {S : Type 0} (told : S → Option (List ℕ)) (faults : S → ℕ) (p : Tree) where
-  pub drew_refused : (h t : Hold (SourceView S)) (j : ℕ) (xs ys : List ℕ) (ss zs : List (List ℕ)) (why : SourceRefusal)
-      → Drew told faults p h t j xs (Some why) ss → Drew told faults p h t j (xs ++ ys) (Some why) zs
-  drew_refused h t j xs ys ss zs why d = by d.end refl d.answer where
+  pub drew_refused : (reads : S → ℕ → Option (List ℕ) → S → Type 0) (h t : Hold (SourceView S)) (j : ℕ) (xs ys : List ℕ) (ss zs : List (List ℕ)) (why : SourceRefusal)
+      → Drew told faults reads p h t j xs (Some why) ss → Drew told faults reads p h t j (xs ++ ys) (Some why) zs
+  drew_refused reads h t j xs ys ss zs why d = by d.end refl d.answer where
     row : SourceRow
     row = source_row p j
 
     by : (e : Result (List ℕ) SourceRefusal) → d.end ≡ e
-        → MatchResult e (λ all. (Some why ≡ None) × (ss ≡ portions row xs all)) (λ x. Some why ≡ Some x) → Drew told faults p h t j (xs ++ ys) (Some why) zs
+        → MatchResult e (λ all. (Some why ≡ None) × (ss ≡ portions row xs all)) (λ x. Some why ≡ Some x) → Drew told faults reads p h t j (xs ++ ys) (Some why) zs
     by (Ok all) e (a, b) = cc
     by (Err x) e a = record {
       acts = d.acts;
@@ -120,15 +120,15 @@ module _ {S : Type 0} (told : S → Option (List ℕ)) (faults : S → ℕ) (p :
       tail = d.tail;
     }
 
-  pub drew_nothing : (h : Hold (SourceView S)) (j : ℕ) (v : SourceView S) → IsOfPlan p h → h.sources (source_slot p j) ≡ Some v → IsSource v
-      → (source_held told faults h (source_slot p j)).mode ≡ Running → Drew told faults p h h j [] None []
-  drew_nothing h j v plan at ok running =
+  pub drew_nothing : (reads : S → ℕ → Option (List ℕ) → S → Type 0) (h : Hold (SourceView S)) (j : ℕ) (v : SourceView S) → IsOfPlan p h → h.sources (source_slot p j) ≡ Some v → IsSource v
+      → (source_held told faults h (source_slot p j)).mode ≡ Running → Drew told faults reads p h h j [] None []
+  drew_nothing reads h j v plan at ok running =
       let state = held_source told faults p h j v plan at in
       record {
         acts = [];
         end = Ok [];
         draw = (refl, refl);
-        did = did_none told faults p h;
+        did = did_none told faults p reads h;
         answer = (refl, refl);
         mode = λ z. running;
         taken = λ z. let e : 0 * need_of_block (source_row p j) ≡ 0 = zero-mul (need_of_block (source_row p j)) in omega (arith, e);
@@ -138,24 +138,24 @@ module _ {S : Type 0} (told : S → Option (List ℕ)) (faults : S → ℕ) (p :
   pub runs_first : (h : Hold (SourceView S)) (j : ℕ) (xs ys : List ℕ) → Runs told faults p h j (need_of (source_row p j) (xs ++ ys)) → Runs told faults p h j (need_of (source_row p j) xs)
   runs_first h j xs ys r = record { mode = r.mode; room = let e = need_on (source_row p j) xs ys in let f = r.room in omega (arith, e, f) }
 
-  pub runs_rest : (h t : Hold (SourceView S)) (j : ℕ) (xs ys : List ℕ) (ss : List (List ℕ)) → Runs told faults p h j (need_of (source_row p j) (xs ++ ys))
-      → Drew told faults p h t j xs None ss → Runs told faults p t j (need_of (source_row p j) ys)
-  runs_rest h t j xs ys ss r d = record {
+  pub runs_rest : (reads : S → ℕ → Option (List ℕ) → S → Type 0) (h t : Hold (SourceView S)) (j : ℕ) (xs ys : List ℕ) (ss : List (List ℕ)) → Runs told faults p h j (need_of (source_row p j) (xs ++ ys))
+      → Drew told faults reads p h t j xs None ss → Runs told faults p t j (need_of (source_row p j) ys)
+  runs_rest reads h t j xs ys ss r d = record {
     mode = d.mode refl;
     room = let e = need_on (source_row p j) xs ys in let f = r.room in let g = d.taken refl in omega (arith, e, f, g);
   }
 
-  pub some_refused : (h t : Hold (SourceView S)) (j : ℕ) (xs ys : List ℕ) (ss zs : List (List ℕ)) (r : Option SourceRefusal) → is_some r ≡ true
-      → Drew told faults p h t j xs r ss → Drew told faults p h t j (xs ++ ys) r zs
-  some_refused h t j xs ys ss zs None is d = cc
-  some_refused h t j xs ys ss zs (Some why) is d = drew_refused h t j xs ys ss zs why d
+  pub some_refused : (reads : S → ℕ → Option (List ℕ) → S → Type 0) (h t : Hold (SourceView S)) (j : ℕ) (xs ys : List ℕ) (ss zs : List (List ℕ)) (r : Option SourceRefusal) → is_some r ≡ true
+      → Drew told faults reads p h t j xs r ss → Drew told faults reads p h t j (xs ++ ys) r zs
+  some_refused reads h t j xs ys ss zs None is d = cc
+  some_refused reads h t j xs ys ss zs (Some why) is d = drew_refused reads h t j xs ys ss zs why d
 
   pub none_refused : (r : Option SourceRefusal) → is_some r ≡ false → r ≡ None
   none_refused None is = refl
   none_refused (Some why) is = cc
 
-  pub source_still : (h t : Hold (SourceView S)) (acts : List Act) (k : ℕ) → Did told faults p h t acts → IsSome (h.sources k) → IsSome (t.sources k)
-  source_still h t acts k did is = by (h.sources k) (t.sources k) (did.sources k) is where
+  pub source_still : (reads : S → ℕ → Option (List ℕ) → S → Type 0) (h t : Hold (SourceView S)) (acts : List Act) (k : ℕ) → Did told faults reads p h t acts → IsSome (h.sources k) → IsSome (t.sources k)
+  source_still reads h t acts k did is = by (h.sources k) (t.sources k) (did.sources k) is where
     by : (o q : Option (SourceView S)) → option_map (λ (v : SourceView S). v.row) q ≡ option_map (λ (v : SourceView S). v.row) o → IsSome o → IsSome q
     by (Some v) (Some w) e is = refl
     by (Some v) None e is = absurd (cc)
@@ -188,9 +188,9 @@ chunked_same p n a b x y s add (d ∷ ds) (len ∷ ls) =
 
 module _ {S : Type 0} (told : S → Option (List ℕ)) (faults : S → ℕ) (p : Tree) where
   -- the state of a node after one act
-  pub node_acted : (h t : Hold (SourceView S)) (n : ℕ) (a : NodeAct) → IsSome (h.nodes n) → Did told faults p h t (record { slot = n; act = AtNode a } ∷ [])
+  pub node_acted : (reads : S → ℕ → Option (List ℕ) → S → Type 0) (h t : Hold (SourceView S)) (n : ℕ) (a : NodeAct) → IsSome (h.nodes n) → Did told faults reads p h t (record { slot = n; act = AtNode a } ∷ [])
       → node_held told faults t n ≡ node_after (node_row p n) (node_held told faults h n) a
-  node_acted h t n a is did = by (h.nodes n) refl is where
+  node_acted reads h t n a is did = by (h.nodes n) refl is where
     here : (n == n) ≡ true
     here = grind (arith, nat_tests)
 
@@ -198,21 +198,21 @@ module _ {S : Type 0} (told : S → Option (List ℕ)) (faults : S → ℕ) (p :
     by None e f = absurd (let z : false ≡ true = f in cc)
     by (Some v) e f = ap (λ (x : SlotState). node_in x) (did.states n) ∙ rw (here, e) refl
 
-  pub node_twice : (h t u : Hold (SourceView S)) (n : ℕ) (a b : NodeAct) → IsSome (h.nodes n) → Did told faults p h t (record { slot = n; act = AtNode a } ∷ [])
-      → Did told faults p t u (record { slot = n; act = AtNode b } ∷ []) → node_held told faults u n ≡ node_after (node_row p n) (node_after (node_row p n) (node_held told faults h n) a) b
-  node_twice h t u n a b is d e =
-      node_acted t u n b (node_still told faults p h t (record { slot = n; act = AtNode a } ∷ []) n d is) e ∙ ap (λ s. node_after (node_row p n) s b) (node_acted h t n a is d)
+  pub node_twice : (reads : S → ℕ → Option (List ℕ) → S → Type 0) (h t u : Hold (SourceView S)) (n : ℕ) (a b : NodeAct) → IsSome (h.nodes n) → Did told faults reads p h t (record { slot = n; act = AtNode a } ∷ [])
+      → Did told faults reads p t u (record { slot = n; act = AtNode b } ∷ []) → node_held told faults u n ≡ node_after (node_row p n) (node_after (node_row p n) (node_held told faults h n) a) b
+  node_twice reads h t u n a b is d e =
+      node_acted reads t u n b (node_still told faults p reads h t (record { slot = n; act = AtNode a } ∷ []) n d is) e ∙ ap (λ s. node_after (node_row p n) s b) (node_acted reads h t n a is d)
 
   -- one chunk, and those behind it
-  pub chunks_on : (h t u w : Hold (SourceView S)) (n entropy count : ℕ) (string strings piece others : List ℕ) (out : ℕ) → count ≢ 0 → IsSome (h.nodes n)
-      → Did told faults p h t (record { slot = n; act = AtNode (Seeded Renew (take (entropy + 8) strings) string) } ∷ [])
-      → Did told faults p t u (record { slot = n; act = AtNode (Gave [] (min entropy out) piece) } ∷ [])
+  pub chunks_on : (reads : S → ℕ → Option (List ℕ) → S → Type 0) (h t u w : Hold (SourceView S)) (n entropy count : ℕ) (string strings piece others : List ℕ) (out : ℕ) → count ≢ 0 → IsSome (h.nodes n)
+      → Did told faults reads p h t (record { slot = n; act = AtNode (Seeded Renew (take (entropy + 8) strings) string) } ∷ [])
+      → Did told faults reads p t u (record { slot = n; act = AtNode (Gave [] (min entropy out) piece) } ∷ [])
       → piece ≡ given_bytes (node_row p n) (node_held told faults t n) [] (min entropy out)
-      → Did told faults p u w (chunked (link p n Rests (states_held told faults u n)) (node_held told faults u n) [] (pieces (count - 1) (entropy + 8) (drop (entropy + 8) strings)) (chunk_lens (count - 1) entropy (out - entropy))).acts
+      → Did told faults reads p u w (chunked (link p n Rests (states_held told faults u n)) (node_held told faults u n) [] (pieces (count - 1) (entropy + 8) (drop (entropy + 8) strings)) (chunk_lens (count - 1) entropy (out - entropy))).acts
       → others ≡ (chunked (link p n Rests (states_held told faults u n)) (node_held told faults u n) [] (pieces (count - 1) (entropy + 8) (drop (entropy + 8) strings)) (chunk_lens (count - 1) entropy (out - entropy))).bytes
-      → Did told faults p h w (chunked (link p n Rests (states_held told faults h n)) (node_held told faults h n) string (pieces count (entropy + 8) strings) (chunk_lens count entropy out)).acts
+      → Did told faults reads p h w (chunked (link p n Rests (states_held told faults h n)) (node_held told faults h n) string (pieces count (entropy + 8) strings) (chunk_lens count entropy out)).acts
       × (piece ++ others ≡ (chunked (link p n Rests (states_held told faults h n)) (node_held told faults h n) string (pieces count (entropy + 8) strings) (chunk_lens count entropy out)).bytes)
-  chunks_on h t u w n entropy count string strings piece others out more is seeds gives given rest bytes =
+  chunks_on reads h t u w n entropy count string strings piece others out more is seeds gives given rest bytes =
       let d = take (entropy + 8) strings in
       let len = min entropy out in
       let s = node_held told faults h n in
@@ -220,10 +220,10 @@ module _ {S : Type 0} (told : S → Option (List ℕ)) (faults : S → ℕ) (p :
       let seeded = Seeded Renew d string in
       let now = node_after row s seeded in
       let gave = Gave [] len (given_bytes row now [] len) in
-      let one = node_acted h t n seeded is seeds in
+      let one = node_acted reads h t n seeded is seeds in
       let piece_is : piece ≡ given_bytes row now [] len = given ∙ ap (λ s. given_bytes row s [] len) one in
-      let gives' : Did told faults p t u (record { slot = n; act = AtNode gave } ∷ []) = subst (λ z. Did told faults p t u (record { slot = n; act = AtNode (Gave [] len z) } ∷ [])) piece_is gives in
-      let two : node_held told faults u n ≡ node_after row now gave = node_acted t u n gave (node_still told faults p h t (record { slot = n; act = AtNode seeded } ∷ []) n seeds is) gives' ∙ ap (λ s. node_after row s gave) one in
+      let gives' : Did told faults reads p t u (record { slot = n; act = AtNode gave } ∷ []) = subst (λ z. Did told faults reads p t u (record { slot = n; act = AtNode (Gave [] len z) } ∷ [])) piece_is gives in
+      let two : node_held told faults u n ≡ node_after row now gave = node_acted reads t u n gave (node_still told faults p reads h t (record { slot = n; act = AtNode seeded } ∷ []) n seeds is) gives' ∙ ap (λ s. node_after row s gave) one in
       let ds = pieces (count - 1) (entropy + 8) (drop (entropy + 8) strings) in
       let ls = chunk_lens (count - 1) entropy (out - entropy) in
       let same : chunked (link p n Rests (states_held told faults u n)) (node_held told faults u n) [] ds ls ≡ chunked (link p n Rests (states_held told faults h n)) (node_after row now gave) [] ds ls =
@@ -233,17 +233,17 @@ module _ {S : Type 0} (told : S → Option (List ℕ)) (faults : S → ℕ) (p :
       ≡ chunked (link p n Rests (states_held told faults h n)) s string (d ∷ ds) (len ∷ ls) =
       ap (λ z. chunked (link p n Rests (states_held told faults h n)) s string z (chunk_lens count entropy out)) (pieces_first count (entropy + 8) strings more)
       ∙ ap (λ z. chunked (link p n Rests (states_held told faults h n)) s string (d ∷ ds) z) (lens_first count entropy out more) in
-      let rest' = subst (λ (x : Work). Did told faults p u w x.acts) same rest in (
-        subst (λ (x : Work). Did told faults p h w x.acts) (sym whole)
-            (did_join told faults p h t w (record { slot = n; act = AtNode seeded } ∷ []) _ seeds (did_join told faults p t u w (record { slot = n; act = AtNode gave } ∷ []) _ gives' rest')),
+      let rest' = subst (λ (x : Work). Did told faults reads p u w x.acts) same rest in (
+        subst (λ (x : Work). Did told faults reads p h w x.acts) (sym whole)
+            (did_join told faults p reads h t w (record { slot = n; act = AtNode seeded } ∷ []) _ seeds (did_join told faults p reads t u w (record { slot = n; act = AtNode gave } ∷ []) _ gives' rest')),
         ap (λ z. z ++ others) piece_is ∙ (ap (λ z. given_bytes row now [] len ++ z) (bytes ∙ ap (λ (x : Work). x.bytes) same) ∙ ap (λ (x : Work). x.bytes) (sym whole)),
       )
 
-  pub chunks_none : (h : Hold (SourceView S)) (n entropy count : ℕ) (string strings out : List ℕ) → count ≡ 0 → length out ≤ count * entropy
-      → Did told faults p h h (chunked (link p n Rests (states_held told faults h n)) (node_held told faults h n) string (pieces count (entropy + 8) strings) (chunk_lens count entropy (length out))).acts
+  pub chunks_none : (reads : S → ℕ → Option (List ℕ) → S → Type 0) (h : Hold (SourceView S)) (n entropy count : ℕ) (string strings out : List ℕ) → count ≡ 0 → length out ≤ count * entropy
+      → Did told faults reads p h h (chunked (link p n Rests (states_held told faults h n)) (node_held told faults h n) string (pieces count (entropy + 8) strings) (chunk_lens count entropy (length out))).acts
       × (out ≡ (chunked (link p n Rests (states_held told faults h n)) (node_held told faults h n) string (pieces count (entropy + 8) strings) (chunk_lens count entropy (length out))).bytes)
-  chunks_none h n entropy zero string strings out e few = (did_none told faults p h, empty out (let z = zero-mul entropy in omega (arith, z, few)))
-  chunks_none h n entropy (suc k) string strings out e few = absurd (omega (arith, e))
+  chunks_none reads h n entropy zero string strings out e few = (did_none told faults p reads h, empty out (let z = zero-mul entropy in omega (arith, z, few)))
+  chunks_none reads h n entropy (suc k) string strings out e few = absurd (omega (arith, e))
 
 pub same_wants : (n size entropy len : ℕ) → map (λ (k : ℕ). size) (chunk_lens n entropy len) ≡ same_lens n size
 same_wants zero size entropy len = refl
@@ -287,9 +287,9 @@ rs_limit Rbg3Rs len h = (refl, refl)
 rs_limit Child len h = cc
 
 module _ {S : Type 0} (told : S → Option (List ℕ)) (faults : S → ℕ) (p : Tree) where
-  pub drew_both : (h t u : Hold (SourceView S)) (j : ℕ) (xs ys : List ℕ) (ss zs : List (List ℕ)) (r : Option SourceRefusal) → IsOfPlan p h → IsSome (h.sources (source_slot p j))
-      → Drew told faults p h t j xs None ss → Drew told faults p t u j ys r zs → Drew told faults p h u j (xs ++ ys) r (ss ++ zs)
-  drew_both h t u j xs ys ss zs r plan is a b = by (h.sources (source_slot p j)) refl is where
-    by : (o : Option (SourceView S)) → h.sources (source_slot p j) ≡ o → IsSome o → Drew told faults p h u j (xs ++ ys) r (ss ++ zs)
+  pub drew_both : (reads : S → ℕ → Option (List ℕ) → S → Type 0) (h t u : Hold (SourceView S)) (j : ℕ) (xs ys : List ℕ) (ss zs : List (List ℕ)) (r : Option SourceRefusal) → IsOfPlan p h → IsSome (h.sources (source_slot p j))
+      → Drew told faults reads p h t j xs None ss → Drew told faults reads p t u j ys r zs → Drew told faults reads p h u j (xs ++ ys) r (ss ++ zs)
+  drew_both reads h t u j xs ys ss zs r plan is a b = by (h.sources (source_slot p j)) refl is where
+    by : (o : Option (SourceView S)) → h.sources (source_slot p j) ≡ o → IsSome o → Drew told faults reads p h u j (xs ++ ys) r (ss ++ zs)
     by None e f = absurd (let z : false ≡ true = f in cc)
-    by (Some v) e f = drew_join told faults p h t u j v xs ys ss zs r plan e a b
+    by (Some v) e f = drew_join told faults p reads h t u j v xs ys ss zs r plan e a b

@@ -72,12 +72,12 @@ module _ {S : Type 0} (told : S → Option (List ℕ)) (faults : S → ℕ) (p :
       → IsOfPlan p h → h.sources (source_slot p j) ≡ Some v → PutsSource h t (source_slot p j) w → w.row ≡ v.row → IsSource v → v.mode ≡ Running
       → HasDrawn told faults reads n out result v w
       → OnOk result ((w.mode ≡ v.mode) × (w.taken ≡ v.taken + need_of v.row (n ∷ [])) × (faults w.samples ≡ faults v.samples))
-      → Drew told faults p h t j (n ∷ []) (why_of result) (out ∷ [])
+      → Drew told faults reads p h t j (n ∷ []) (why_of result) (out ∷ [])
   drew_one reads h t j v w n out result plan at puts rows ok running drew after = record {
     acts = drew.acts;
     end = drew.bytes;
     draw = subst (λ row. fam row (source_held told faults h (source_slot p j))) row (subst (λ s. fam v.row s) (sym state) drew.draw);
-    did = did_source told faults p h t j v w drew.acts (source_at p (states_held told faults h) j) refl plan at puts rows drew.state;
+    did = did_source told faults p reads h t j v w drew.acts (source_at p (states_held told faults h) j) refl plan at puts rows drew.state drew.made;
     answer = answers drew.bytes result drew.answer;
     mode = λ e. ap (λ (s : SourceState). s.mode) now ∙ (ends result e after).0;
     taken = λ e. ap (λ (s : SourceState). s.taken) now ∙ ((ends result e after).1 ∙ (ap (λ r. v.taken + need_of r (n ∷ [])) row ∙ ap (λ (s : SourceState). s.taken + need_of (source_row p j) (n ∷ [])) (sym state)));
@@ -115,7 +115,7 @@ module _ {S : Type 0} (told : S → Option (List ℕ)) (faults : S → ℕ) (p :
       → Runs told faults p h j (need_of (source_row p j) (n ∷ [])) → 0 < n
       → (0 < n → v.taken + need_of v.row (n ∷ []) ≤ 2 ^ 60 → v.mode ≡ Running → HasDrawn told faults reads n out result v w)
       → OnOk result ((w.mode ≡ v.mode) × (w.taken ≡ v.taken + need_of v.row (n ∷ [])) × (faults w.samples ≡ faults v.samples))
-      → why_of result ≡ r → Drew told faults p h t j (n ∷ []) r (out ∷ [])
+      → why_of result ≡ r → Drew told faults reads p h t j (n ∷ []) r (out ∷ [])
   drew_at reads h t j k v x w n out result r slot plan at also puts rows ok runs some acts after is =
       let at' : h.sources (source_slot p j) ≡ Some v = subst (λ k. h.sources k ≡ Some v) slot at in
       let puts' : PutsSource h t (source_slot p j) w = subst (λ k. PutsSource h t k w) slot puts in
@@ -127,7 +127,7 @@ module _ {S : Type 0} (told : S → Option (List ℕ)) (faults : S → ℕ) (p :
       let room : v.taken + need_of v.row (n ∷ []) ≤ 2 ^ 60 =
       subst (λ (s : SourceState). s.taken + need_of v.row (n ∷ []) ≤ 2 ^ 60) state
       (subst (λ r. (source_held told faults h (source_slot p j)).taken + need_of r (n ∷ []) ≤ 2 ^ 60) (sym row) runs.room) in
-      subst (λ (r : Option SourceRefusal). Drew told faults p h t j (n ∷ []) r (out ∷ [])) is
+      subst (λ (r : Option SourceRefusal). Drew told faults reads p h t j (n ∷ []) r (out ∷ [])) is
       (drew_one reads h t j v w n out result plan at' puts' rows ok' running (acts some room running) after)
 
   state_is : (h : Hold (SourceView S)) (j : ℕ) (v : SourceView S) → IsOfPlan p h → h.sources (source_slot p j) ≡ Some v
@@ -138,10 +138,10 @@ module _ {S : Type 0} (told : S → Option (List ℕ)) (faults : S → ℕ) (p :
     by (Some x) e = absurd (let a = (plan.node (source_slot p j) x e).low in omega (arith, a))
 
   -- two draws in a row
-  after_draw : (h t : Hold (SourceView S)) (j : ℕ) (xs : List ℕ) (ss : List (List ℕ)) (r : Option SourceRefusal) (d : Drew told faults p h t j xs r ss)
+  after_draw : (reads : S → ℕ → Option (List ℕ) → S → Type 0) (h t : Hold (SourceView S)) (j : ℕ) (xs : List ℕ) (ss : List (List ℕ)) (r : Option SourceRefusal) (d : Drew told faults reads p h t j xs r ss)
       → (v : SourceView S) → IsOfPlan p h → h.sources (source_slot p j) ≡ Some v
       → source_held told faults t (source_slot p j) ≡ source_after_all (source_row p j) (source_held told faults h (source_slot p j)) d.acts
-  after_draw h t j xs ss r d v plan at =
+  after_draw reads h t j xs ss r d v plan at =
       let k = source_slot p j in
       let here = own_here k (source_at p (states_held told faults h) j) d.acts (grind (arith, nat_tests)) in
       let is : states_held told faults h k ≡ SourceIs (source_state told faults v) = state_is h j v plan at in
@@ -150,10 +150,10 @@ module _ {S : Type 0} (told : S → Option (List ℕ)) (faults : S → ℕ) (p :
       ∙ (ap (λ i. source_after_all (source_row p i) (source_state told faults v) d.acts) (place_of (length p.nodes) j)
       ∙ ap (λ (s : SourceState). source_after_all (source_row p j) s d.acts) (sym (ap source_in is)))
 
-  pub drew_join : (h t u : Hold (SourceView S)) (j : ℕ) (v : SourceView S) (xs ys : List ℕ) (ss zs : List (List ℕ)) (r : Option SourceRefusal)
+  pub drew_join : (reads : S → ℕ → Option (List ℕ) → S → Type 0) (h t u : Hold (SourceView S)) (j : ℕ) (v : SourceView S) (xs ys : List ℕ) (ss zs : List (List ℕ)) (r : Option SourceRefusal)
       → IsOfPlan p h → h.sources (source_slot p j) ≡ Some v
-      → Drew told faults p h t j xs None ss → Drew told faults p t u j ys r zs → Drew told faults p h u j (xs ++ ys) r (ss ++ zs)
-  drew_join h t u j v xs ys ss zs r plan at a b = by a.end refl a.answer b.end refl b.answer where
+      → Drew told faults reads p h t j xs None ss → Drew told faults reads p t u j ys r zs → Drew told faults reads p h u j (xs ++ ys) r (ss ++ zs)
+  drew_join reads h t u j v xs ys ss zs r plan at a b = by a.end refl a.answer b.end refl b.answer where
     k : ℕ
     k = source_slot p j
 
@@ -164,7 +164,7 @@ module _ {S : Type 0} (told : S → Option (List ℕ)) (faults : S → ℕ) (p :
     s = source_held told faults h k
 
     now : source_held told faults t k ≡ source_after_all row s a.acts
-    now = after_draw h t j xs ss None a v plan at
+    now = after_draw reads h t j xs ss None a v plan at
 
     tail : s.tail ≡ Some a.tail.0
     tail = a.tail.1
@@ -177,14 +177,14 @@ module _ {S : Type 0} (told : S → Option (List ℕ)) (faults : S → ℕ) (p :
 
     by : (e : Result (List ℕ) SourceRefusal) → a.end ≡ e → MatchResult e (λ all. (◌≡◌ {A = Option SourceRefusal} None None) × (ss ≡ portions row xs all)) (λ why. ◌≡◌ {A = Option SourceRefusal} None (Some why))
         → (f : Result (List ℕ) SourceRefusal) → b.end ≡ f → MatchResult f (λ all. (r ≡ None) × (zs ≡ portions row ys all)) (λ why. r ≡ Some why)
-        → Drew told faults p h u j (xs ++ ys) r (ss ++ zs)
+        → Drew told faults reads p h u j (xs ++ ys) r (ss ++ zs)
     by (Err why) e m f i n = cc
     by (Ok mid) e (m, ps) f i n = record {
       acts = a.acts ++ b.acts;
       end = behind mid b.end;
       draw = subst (λ o. Drawn row (found_in row.cutoffs o) s (xs ++ ys) (a.acts ++ b.acts) (behind mid b.end)) (sym tail)
           (wants_on row a.tail.0 xs ys s a.acts mid b.acts b.end tail (subst (λ z. Drawn row (found_in row.cutoffs (Some a.tail.0)) s xs a.acts z) e first) second);
-      did = subst (λ z. Did told faults p h u z) (sym (map_on (source_at p (states_held told faults h) j) (source_at p (states_held told faults t) j) a.acts b.acts refl)) (did_join told faults p h t u _ _ a.did b.did);
+      did = subst (λ z. Did told faults reads p h u z) (sym (map_on (source_at p (states_held told faults h) j) (source_at p (states_held told faults t) j) a.acts b.acts refl)) (did_join told faults p reads h t u _ _ a.did b.did);
       answer = ans b.end b.answer;
       mode = b.mode;
       taken = λ n. b.taken n ∙ (ap (λ k. k + need_of row ys) (a.taken refl) ∙ (let e = need_on row xs ys in omega (arith, e)));

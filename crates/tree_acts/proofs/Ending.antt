@@ -56,10 +56,10 @@ draws_plain : (pr : Bool) (l : Link) → draws_on pr (plain l) ≡ draws_on pr l
 draws_plain pr l = ap (λ (z : List ℕ). if is_alive l && are_some z then number_in l.origin else None) (wanted_plain pr l)
 
 module _ {S : Type 0} (told : S → Option (List ℕ)) (faults : S → ℕ) (p : Tree) where
-  pub did_seed_own : (h t : Hold (SourceView S)) (n : ℕ) (v x w : NodeView) (string : List ℕ) → IsOfPlan p h → h.nodes n ≡ Some v → h.nodes n ≡ Some x → IsNode x → PutsNode h t n w
+  pub did_seed_own : (reads : S → ℕ → Option (List ℕ) → S → Type 0) (h t : Hold (SourceView S)) (n : ℕ) (v x w : NodeView) (string : List ℕ) → IsOfPlan p h → h.nodes n ≡ Some v → h.nodes n ≡ Some x → IsNode x → PutsNode h t n w
       → IfSome v.state.kept (λ seed. w ≡ record v { state = node_after v.row v.state (Seeded New seed string) }) → IsSome (node_held told faults h n).kept
-      → Did told faults p h t (record { slot = n; act = AtNode (Seeded New (take (seed_len (node_row p n) New) (unwrap_or (node_held told faults h n).kept [])) string) } ∷ [])
-  did_seed_own h t n v x w string plan at also ok puts is kept = by v.state.kept refl is kept' where
+      → Did told faults reads p h t (record { slot = n; act = AtNode (Seeded New (take (seed_len (node_row p n) New) (unwrap_or (node_held told faults h n).kept [])) string) } ∷ [])
+  did_seed_own reads h t n v x w string plan at also ok puts is kept = by v.state.kept refl is kept' where
     state : node_held told faults h n ≡ v.state
     state = rw at refl
 
@@ -73,7 +73,7 @@ module _ {S : Type 0} (told : S → Option (List ℕ)) (faults : S → ℕ) (p :
     good = let same : x ≡ v = cc in subst (λ (y : NodeView). IsNode y) same ok
 
     by : (o : Option (List ℕ)) → v.state.kept ≡ o → IfSome o (λ seed. w ≡ record v { state = node_after v.row v.state (Seeded New seed string) }) → IsSome o
-        → Did told faults p h t (record { slot = n; act = AtNode (Seeded New (take (seed_len (node_row p n) New) (unwrap_or (node_held told faults h n).kept [])) string) } ∷ [])
+        → Did told faults reads p h t (record { slot = n; act = AtNode (Seeded New (take (seed_len (node_row p n) New) (unwrap_or (node_held told faults h n).kept [])) string) } ∷ [])
     by None e f g = absurd (let z : false ≡ true = g in cc)
     by (Some seed) e f g =
         let len : length seed ≡ seed_len v.row New = subst (λ (o : Option (List ℕ)). IsSeed v.row o) e good.kept in
@@ -81,8 +81,8 @@ module _ {S : Type 0} (told : S → Option (List ℕ)) (faults : S → ℕ) (p :
         ap (λ s. take (seed_len (node_row p n) New) (unwrap_or s.kept [])) state
         ∙ (ap (λ (o : Option (List ℕ)). take (seed_len (node_row p n) New) (unwrap_or o [])) e
         ∙ (ap (λ r. take (seed_len r New) seed) (sym row) ∙ (ap (λ k. take k seed) (sym len) ∙ take_all seed))) in
-        subst (λ z. Did told faults p h t (record { slot = n; act = AtNode (Seeded New z string) } ∷ [])) (sym whole)
-        (did_node told faults p h t n v w (Seeded New seed string) plan at puts f)
+        subst (λ z. Did told faults reads p h t (record { slot = n; act = AtNode (Seeded New z string) } ∷ [])) (sym whole)
+        (did_node told faults p reads h t n v w (Seeded New seed string) plan at puts f)
 
   pub step_draws : (pr : Bool) (task : Task) (x : SlotState) (n k : ℕ) (y : Link) → k ≡ n → y ≡ plain (record (link p n task x) { origin = (node_plan p k).origin })
       → draws_on pr y ≡ draws_on pr (link p n task x)
@@ -97,22 +97,22 @@ module _ {S : Type 0} (told : S → Option (List ℕ)) (faults : S → ℕ) (p :
   source_some s pr l o j e some = names_source p s pr l ∙ ap (λ (o : Option ℕ). option_map (λ j. source_at p s j) o) (sym e ∙ some)
 
   -- the work of the last node, as that of the only link
-  pub worked_own : (h t : Hold (SourceView S)) (pr : Bool) (string bytes : List ℕ) (l : Link) → source_of p (states_held told faults h) pr l ≡ None
-      → Did told faults p h t (task_work pr [] string l [] l.task).acts → bytes ≡ (task_work pr [] string l [] l.task).bytes
-      → Worked told faults p h t pr string (l ∷ []) (source_of p (states_held told faults h) pr l) None bytes
-  worked_own h t pr string bytes l none did is =
-      subst (λ (o : Option SourceLink). Worked told faults p h t pr string (l ∷ []) o None bytes) (sym none)
+  pub worked_own : (reads : S → ℕ → Option (List ℕ) → S → Type 0) (h t : Hold (SourceView S)) (pr : Bool) (string bytes : List ℕ) (l : Link) → source_of p (states_held told faults h) pr l ≡ None
+      → Did told faults reads p h t (task_work pr [] string l [] l.task).acts → bytes ≡ (task_work pr [] string l [] l.task).bytes
+      → Worked told faults reads p h t pr string (l ∷ []) (source_of p (states_held told faults h) pr l) None bytes
+  worked_own reads h t pr string bytes l none did is =
+      subst (λ (o : Option SourceLink). Worked told faults reads p h t pr string (l ∷ []) o None bytes) (sym none)
       (record { acts = (task_work pr [] string l [] l.task).acts; did = did; works = (refl, refl, is) })
 
-  pub worked_source : (h u : Hold (SourceView S)) (pr : Bool) (string bytes : List ℕ) (l : Link) (j : ℕ) (r : Option SourceRefusal)
+  pub worked_source : (reads : S → ℕ → Option (List ℕ) → S → Type 0) (h u : Hold (SourceView S)) (pr : Bool) (string bytes : List ℕ) (l : Link) (j : ℕ) (r : Option SourceRefusal)
       → source_of p (states_held told faults h) pr l ≡ Some (source_at p (states_held told faults h) j)
-      → SourceWorked told faults p h u pr string l j r bytes
-      → Worked told faults p h u pr string (l ∷ []) (source_of p (states_held told faults h) pr l) (option_map (λ why. source_reply j why) r) bytes
-  worked_source h u pr string bytes l j r on w =
-      subst (λ (o : Option SourceLink). Worked told faults p h u pr string (l ∷ []) o (option_map (λ why. source_reply j why) r) bytes) (sym on)
+      → SourceWorked told faults reads p h u pr string l j r bytes
+      → Worked told faults reads p h u pr string (l ∷ []) (source_of p (states_held told faults h) pr l) (option_map (λ why. source_reply j why) r) bytes
+  worked_source reads h u pr string bytes l j r on w =
+      subst (λ (o : Option SourceLink). Worked told faults reads p h u pr string (l ∷ []) o (option_map (λ why. source_reply j why) r) bytes) (sym on)
       (record {
         acts = map (at_source (source_at p (states_held told faults h) j)) w.drew.acts ++ w.acts;
-        did = did_join told faults p h w.mid u (map (at_source (source_at p (states_held told faults h) j)) w.drew.acts) w.acts w.drew.did w.did;
+        did = did_join told faults p reads h w.mid u (map (at_source (source_at p (states_held told faults h) j)) w.drew.acts) w.acts w.drew.did w.did;
         works = (w.drew.acts, w.drew.end, w.drew.draw, by w.drew.end w.drew.answer r w.works refl);
       }) where
         t : SourceLink

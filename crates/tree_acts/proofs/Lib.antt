@@ -10,7 +10,6 @@ pub mod Ending
 pub mod Chunking
 pub mod Sourced
 pub mod Bytes
-pub mod Sums
 pub mod Mixing
 pub mod Wiping
 pub mod Starting

@@ -47,8 +47,8 @@ module _ {S : Type 0} (told : S → Option (List ℕ)) (faults : S → ℕ) (p :
   first_there h pr task far n plan low held = node_there h n plan low (held n (has_first n _))
 
   -- acts leave what is held of the plan
-  pub plan_still : (h t : Hold (SourceView S)) (acts : List Act) → Did told faults p h t acts → IsOfPlan p h → IsOfPlan p t
-  plan_still h t acts did plan = record { node = λ k v e. by_node k v e (h.nodes k) refl; source = λ k v e. by_source k v e (h.sources k) refl } where
+  pub plan_still : (reads : S → ℕ → Option (List ℕ) → S → Type 0) (h t : Hold (SourceView S)) (acts : List Act) → Did told faults reads p h t acts → IsOfPlan p h → IsOfPlan p t
+  plan_still reads h t acts did plan = record { node = λ k v e. by_node k v e (h.nodes k) refl; source = λ k v e. by_source k v e (h.sources k) refl } where
     by_node : (k : ℕ) (v : NodeView) → t.nodes k ≡ Some v → (o : Option NodeView) → h.nodes k ≡ o → IsNodeOf p k v
     by_node k v e None f = let same = did.nodes k in absurd (cc)
     by_node k v e (Some w) f =
@@ -63,8 +63,8 @@ module _ {S : Type 0} (told : S → Option (List ℕ)) (faults : S → ℕ) (p :
         let row : v.row ≡ w.row = cc in
         let was = plan.source k w f in record { high = was.high; low = was.low; row = row ∙ was.row }
 
-  pub node_still : (h t : Hold (SourceView S)) (acts : List Act) (n : ℕ) → Did told faults p h t acts → IsSome (h.nodes n) → IsSome (t.nodes n)
-  node_still h t acts n did is = by (h.nodes n) (t.nodes n) (did.nodes n) is where
+  pub node_still : (reads : S → ℕ → Option (List ℕ) → S → Type 0) (h t : Hold (SourceView S)) (acts : List Act) (n : ℕ) → Did told faults reads p h t acts → IsSome (h.nodes n) → IsSome (t.nodes n)
+  node_still reads h t acts n did is = by (h.nodes n) (t.nodes n) (did.nodes n) is where
     by : (o q : Option NodeView) → option_map (λ (v : NodeView). v.row) q ≡ option_map (λ (v : NodeView). v.row) o → IsSome o → IsSome q
     by (Some v) (Some w) e is = refl
     by (Some v) None e is = absurd (cc)
@@ -182,61 +182,61 @@ module _ {S : Type 0} (told : S → Option (List ℕ)) (faults : S → ℕ) (p :
     by (Some x) e is = kinds x is x.kind refl x.origin refl (range.node n x e).origin
 
   -- what the links above a node do leaves the node alone
-  pub state_still : (h t : Hold (SourceView S)) (pr : Bool) (task : Task) (far n q : ℕ) (r : Option Reply) (above : List ℕ)
+  pub state_still : (reads : S → ℕ → Option (List ℕ) → S → Type 0) (h t : Hold (SourceView S)) (pr : Bool) (task : Task) (far n q : ℕ) (r : Option Reply) (above : List ℕ)
       → IsTree 8 p.nodes → n < length p.nodes → parent_in (node_plan p n).origin ≡ Some q
-      → Worked told faults p h t pr [] (links_from p (states_held told faults h) pr task far q)
+      → Worked told faults reads p h t pr [] (links_from p (states_held told faults h) pr task far q)
       (source_of p (states_held told faults h) pr (last_link (links_from p (states_held told faults h) pr task far q))) r above
       → states_held told faults t n ≡ states_held told faults h n
-  state_still h t pr task far n q r above tree low is w =
+  state_still reads h t pr task far n q r above tree low is w =
       let s = states_held told faults h in
       let ls = links_from p s pr task far q in
       w.did.states n ∙ ap (λ z. slot_after_all p n (states_held told faults h n) z)
       (own_works n pr [] ls (source_of p s pr (last_link ls)) r above w.acts (alone p 8 s pr task far n q tree is) (apart p s pr (last_link ls) n low) w.works)
 
   -- the work of a node's links, from that of the links above it
-  pub risen : (h t u : Hold (SourceView S)) (pr : Bool) (task : Task) (far n q : ℕ) (string above bytes : List ℕ)
+  pub risen : (reads : S → ℕ → Option (List ℕ) → S → Type 0) (h t u : Hold (SourceView S)) (pr : Bool) (task : Task) (far n q : ℕ) (string above bytes : List ℕ)
       → far ≢ 0 → IsPlanned 0 p → IsTree 8 p.nodes → n < length p.nodes → asks_parent pr (link p n task (states_held told faults h n)) ≡ true
       → parent_in (node_plan p n).origin ≡ Some q
-      → Worked told faults p h t pr [] (links_from p (states_held told faults h) pr (Gives (seeding_len (link p n task (states_held told faults h n)))) (far - 1) q)
+      → Worked told faults reads p h t pr [] (links_from p (states_held told faults h) pr (Gives (seeding_len (link p n task (states_held told faults h n)))) (far - 1) q)
       (source_of p (states_held told faults h) pr (last_link (links_from p (states_held told faults h) pr (Gives (seeding_len (link p n task (states_held told faults h n)))) (far - 1) q))) None above
-      → Did told faults p t u (seeded_part (link p n task (states_held told faults t n)) above string task).acts
+      → Did told faults reads p t u (seeded_part (link p n task (states_held told faults t n)) above string task).acts
       → bytes ≡ (seeded_part (link p n task (states_held told faults t n)) above string task).bytes
-      → Worked told faults p h u pr string (links_from p (states_held told faults h) pr task far n)
+      → Worked told faults reads p h u pr string (links_from p (states_held told faults h) pr task far n)
       (source_of p (states_held told faults h) pr (last_link (links_from p (states_held told faults h) pr task far n))) None bytes
-  risen h t u pr task far n q string above bytes more range tree low asks is w did gave =
+  risen reads h t u pr task far n q string above bytes more range tree low asks is w did gave =
       let s = states_held told faults h in
       let l = link p n task (s n) in
       let m = link p q (Gives (seeding_len l)) (s q) in
       let up = rest_from p s pr (Gives (seeding_len l)) (far - 1) q in
       let source = source_of p s pr (last_link (m ∷ up)) in
-      let still = state_still h t pr (Gives (seeding_len l)) (far - 1) n q None above tree low is w in
+      let still = state_still reads h t pr (Gives (seeding_len l)) (far - 1) n q None above tree low is w in
       let kinds = child_kind n q range low is in
-      let did' : Did told faults p t u (seeded_part l above string task).acts =
-      subst (λ x. Did told faults p t u (seeded_part (link p n task x) above string task).acts) still did in
+      let did' : Did told faults reads p t u (seeded_part l above string task).acts =
+      subst (λ x. Did told faults reads p t u (seeded_part (link p n task x) above string task).acts) still did in
       let gave' : bytes ≡ (seeded_part l above string task).bytes = subst (λ x. bytes ≡ (seeded_part (link p n task x) above string task).bytes) still gave in
       let parts : (drawn : List (List ℕ)) → task_work pr drawn string l above task ≡ seeded_part l above string task =
       λ drawn. child_part pr drawn string above l q is kinds.0 kinds.1 task refl (asks_seed pr l asks).1 in
-      subst (λ ls. Worked told faults p h u pr string ls (source_of p s pr (last_link ls)) None bytes) (sym (links_step p s pr task far n q more asks is))
+      subst (λ ls. Worked told faults reads p h u pr string ls (source_of p s pr (last_link ls)) None bytes) (sym (links_step p s pr task far n q more asks is))
       (record {
         acts = w.acts ++ (seeded_part l above string task).acts;
-        did = did_join told faults p h t u w.acts (seeded_part l above string task).acts w.did did';
+        did = did_join told faults p reads h t u w.acts (seeded_part l above string task).acts w.did did';
         works = subst (λ b. Works pr string (l ∷ m ∷ up) source None b (w.acts ++ (seeded_part l above string task).acts)) (sym gave')
             (over pr string l m up source above w.acts (seeded_part l above string task) parts w.works);
       })
 
   -- and from a refusal above it
-  pub risen_refused : (h t : Hold (SourceView S)) (pr : Bool) (task : Task) (far n q : ℕ) (r : Reply) (string above bytes : List ℕ)
+  pub risen_refused : (reads : S → ℕ → Option (List ℕ) → S → Type 0) (h t : Hold (SourceView S)) (pr : Bool) (task : Task) (far n q : ℕ) (r : Reply) (string above bytes : List ℕ)
       → far ≢ 0 → asks_parent pr (link p n task (states_held told faults h n)) ≡ true → parent_in (node_plan p n).origin ≡ Some q
-      → Worked told faults p h t pr [] (links_from p (states_held told faults h) pr (Gives (seeding_len (link p n task (states_held told faults h n)))) (far - 1) q)
+      → Worked told faults reads p h t pr [] (links_from p (states_held told faults h) pr (Gives (seeding_len (link p n task (states_held told faults h n)))) (far - 1) q)
       (source_of p (states_held told faults h) pr (last_link (links_from p (states_held told faults h) pr (Gives (seeding_len (link p n task (states_held told faults h n)))) (far - 1) q))) (Some r) above
-      → Worked told faults p h t pr string (links_from p (states_held told faults h) pr task far n)
+      → Worked told faults reads p h t pr string (links_from p (states_held told faults h) pr task far n)
       (source_of p (states_held told faults h) pr (last_link (links_from p (states_held told faults h) pr task far n))) (Some r) bytes
-  risen_refused h t pr task far n q r string above bytes more asks is w =
+  risen_refused reads h t pr task far n q r string above bytes more asks is w =
       let s = states_held told faults h in
       let l = link p n task (s n) in
       let m = link p q (Gives (seeding_len l)) (s q) in
       let up = rest_from p s pr (Gives (seeding_len l)) (far - 1) q in
-      subst (λ ls. Worked told faults p h t pr string ls (source_of p s pr (last_link ls)) (Some r) bytes) (sym (links_step p s pr task far n q more asks is))
+      subst (λ ls. Worked told faults reads p h t pr string ls (source_of p s pr (last_link ls)) (Some r) bytes) (sym (links_step p s pr task far n q more asks is))
       (record {
         acts = w.acts;
         did = w.did;
@@ -281,22 +281,22 @@ module _ {S : Type 0} (told : S → Option (List ℕ)) (faults : S → ℕ) (p :
   ready_only h pr task far n string out spare o r =
       subst (λ ls. Ready told faults p h pr task n ls string out spare) (only (states_held told faults h) pr task far n o) r
 
-  pub worked_only : (h t : Hold (SourceView S)) (pr : Bool) (task : Task) (far n : ℕ) (string : List ℕ) (r : Option Reply) (bytes : List ℕ)
+  pub worked_only : (reads : S → ℕ → Option (List ℕ) → S → Type 0) (h t : Hold (SourceView S)) (pr : Bool) (task : Task) (far n : ℕ) (string : List ℕ) (r : Option Reply) (bytes : List ℕ)
       → (far ≡ 0) ⊎ (asks_parent pr (link p n task (states_held told faults h n)) ≡ false)
-      → Worked told faults p h t pr string (link p n task (states_held told faults h n) ∷ []) (source_of p (states_held told faults h) pr (link p n task (states_held told faults h n))) r bytes
-      → Worked told faults p h t pr string (links_from p (states_held told faults h) pr task far n)
+      → Worked told faults reads p h t pr string (link p n task (states_held told faults h n) ∷ []) (source_of p (states_held told faults h) pr (link p n task (states_held told faults h n))) r bytes
+      → Worked told faults reads p h t pr string (links_from p (states_held told faults h) pr task far n)
       (source_of p (states_held told faults h) pr (last_link (links_from p (states_held told faults h) pr task far n))) r bytes
-  worked_only h t pr task far n string r bytes o w =
-      subst (λ ls. Worked told faults p h t pr string ls (source_of p (states_held told faults h) pr (last_link ls)) r bytes) (sym (only (states_held told faults h) pr task far n o)) w
+  worked_only reads h t pr task far n string r bytes o w =
+      subst (λ ls. Worked told faults reads p h t pr string ls (source_of p (states_held told faults h) pr (last_link ls)) r bytes) (sym (only (states_held told faults h) pr task far n o)) w
 
-  pub refused_some : (h t : Hold (SourceView S)) (pr : Bool) (task : Task) (far n q : ℕ) (r : Option Reply) (string above bytes : List ℕ)
+  pub refused_some : (reads : S → ℕ → Option (List ℕ) → S → Type 0) (h t : Hold (SourceView S)) (pr : Bool) (task : Task) (far n q : ℕ) (r : Option Reply) (string above bytes : List ℕ)
       → far ≢ 0 → asks_parent pr (link p n task (states_held told faults h n)) ≡ true → parent_in (node_plan p n).origin ≡ Some q → is_some r ≡ true
-      → Worked told faults p h t pr [] (links_from p (states_held told faults h) pr (Gives (seeding_len (link p n task (states_held told faults h n)))) (far - 1) q)
+      → Worked told faults reads p h t pr [] (links_from p (states_held told faults h) pr (Gives (seeding_len (link p n task (states_held told faults h n)))) (far - 1) q)
       (source_of p (states_held told faults h) pr (last_link (links_from p (states_held told faults h) pr (Gives (seeding_len (link p n task (states_held told faults h n)))) (far - 1) q))) r above
-      → Worked told faults p h t pr string (links_from p (states_held told faults h) pr task far n)
+      → Worked told faults reads p h t pr string (links_from p (states_held told faults h) pr task far n)
       (source_of p (states_held told faults h) pr (last_link (links_from p (states_held told faults h) pr task far n))) r bytes
-  refused_some h t pr task far n q None string above bytes more asks is some w = cc
-  refused_some h t pr task far n q (Some r) string above bytes more asks is some w = risen_refused h t pr task far n q r string above bytes more asks is w
+  refused_some reads h t pr task far n q None string above bytes more asks is some w = cc
+  refused_some reads h t pr task far n q (Some r) string above bytes more asks is some w = risen_refused reads h t pr task far n q r string above bytes more asks is w
 
   pub none_of : (r : Option Reply) → is_some r ≡ false → r ≡ None
   none_of None h = refl

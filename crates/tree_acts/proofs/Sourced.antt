@@ -24,9 +24,9 @@ use Rattle.tree_acts.proofs.Rising.{node_there, alive_is}
 
 module _ {S : Type 0} (told : S → Option (List ℕ)) (faults : S → ℕ) (p : Tree) where
   -- a draw leaves nodes alone
-  pub drew_still : (h t : Hold (SourceView S)) (j n : ℕ) (xs : List ℕ) (r : Option SourceRefusal) (ss : List (List ℕ)) → n < length p.nodes
-      → Drew told faults p h t j xs r ss → states_held told faults t n ≡ states_held told faults h n
-  drew_still h t j n xs r ss low d =
+  pub drew_still : (reads : S → ℕ → Option (List ℕ) → S → Type 0) (h t : Hold (SourceView S)) (j n : ℕ) (xs : List ℕ) (r : Option SourceRefusal) (ss : List (List ℕ)) → n < length p.nodes
+      → Drew told faults reads p h t j xs r ss → states_held told faults t n ≡ states_held told faults h n
+  drew_still reads h t j n xs r ss low d =
       let off : ((length p.nodes + j) == n) ≡ false = grind (arith, nat_tests) in
       d.did.states n ∙ ap (λ z. slot_after_all p n (states_held told faults h n) z) (own_else n (source_at p (states_held told faults h) j) d.acts off)
 
@@ -59,12 +59,12 @@ module _ {S : Type 0} (told : S → Option (List ℕ)) (faults : S → ℕ) (p :
       → Ready told faults p h pr task n (l ∷ []) string out spare → l.state.live ≡ not (starts l.task)
   alive_here h pr task n string out spare l r = alive_is told faults p pr l r.able.alive r.able.dead
 
-  pub sw_refused : (h t : Hold (SourceView S)) (pr : Bool) (string bytes : List ℕ) (l : Link) (j : ℕ) (r : Option SourceRefusal) (ss : List (List ℕ)) → is_some r ≡ true
-      → Drew told faults p h t j (wanted pr l) r ss → SourceWorked told faults p h t pr string l j r bytes
-  sw_refused h t pr string bytes l j None ss is d = cc
-  sw_refused h t pr string bytes l j (Some why) ss is d = record { mid = t; strings = ss; drew = d; acts = []; did = did_none told faults p t; works = refl }
+  pub sw_refused : (reads : S → ℕ → Option (List ℕ) → S → Type 0) (h t : Hold (SourceView S)) (pr : Bool) (string bytes : List ℕ) (l : Link) (j : ℕ) (r : Option SourceRefusal) (ss : List (List ℕ)) → is_some r ≡ true
+      → Drew told faults reads p h t j (wanted pr l) r ss → SourceWorked told faults reads p h t pr string l j r bytes
+  sw_refused reads h t pr string bytes l j None ss is d = cc
+  sw_refused reads h t pr string bytes l j (Some why) ss is d = record { mid = t; strings = ss; drew = d; acts = []; did = did_none told faults p reads t; works = refl }
 
-  pub sw_done : (h t u : Hold (SourceView S)) (pr : Bool) (string bytes : List ℕ) (l : Link) (j : ℕ) (ss : List (List ℕ))
-      → Drew told faults p h t j (wanted pr l) None ss → Did told faults p t u (task_work pr ss string l [] l.task).acts → bytes ≡ (task_work pr ss string l [] l.task).bytes
-      → SourceWorked told faults p h u pr string l j None bytes
-  sw_done h t u pr string bytes l j ss d did is = record { mid = t; strings = ss; drew = d; acts = (task_work pr ss string l [] l.task).acts; did = did; works = (refl, is) }
+  pub sw_done : (reads : S → ℕ → Option (List ℕ) → S → Type 0) (h t u : Hold (SourceView S)) (pr : Bool) (string bytes : List ℕ) (l : Link) (j : ℕ) (ss : List (List ℕ))
+      → Drew told faults reads p h t j (wanted pr l) None ss → Did told faults reads p t u (task_work pr ss string l [] l.task).acts → bytes ≡ (task_work pr ss string l [] l.task).bytes
+      → SourceWorked told faults reads p h u pr string l j None bytes
+  sw_done reads h t u pr string bytes l j ss d did is = record { mid = t; strings = ss; drew = d; acts = (task_work pr ss string l [] l.task).acts; did = did; works = (refl, is) }

@@ -1,6 +1,6 @@
 -- A start of a source that is held.
-use Rattle.std.proofs.Common.{◌≡◌, ◌+◌, ◌≤◌, ◌^◌, ℕ, List, refl, sym, ap, subst}
-use Rattle.std.specs.Prelude.{Option, Some, None, Result, Ok, Err}
+use Rattle.std.proofs.Common.{◌≡◌, ◌+◌, ◌≤◌, ◌^◌, ℕ, List, refl, sym, subst}
+use Rattle.std.specs.Prelude.{Option, Some, Result}
 use Rattle.tree_config.specs.Tree.{Tree}
 use Rattle.entropy_source.specs.declared.answers.SourceRow.{SourceRow}
 use Rattle.entropy_source.specs.declared.answers.SourceRefusal.{SourceRefusal}
@@ -19,7 +19,7 @@ module _ {S : Type 0} (told : S → Option (List ℕ)) (faults : S → ℕ) (p :
       → k ≡ source_slot p j → IsOfPlan p h → h.sources k ≡ Some v → PutsSource h t k w → w.row ≡ v.row
       → (source_held told faults h (source_slot p j)).taken + (source_row p j).startup ≤ 2 ^ 60
       → (v.taken + v.row.startup ≤ 2 ^ 60 → HasStarted told faults reads result v w)
-      → without_bytes result ≡ start_end r → Started told faults p h t j r
+      → without_bytes result ≡ start_end r → Started told faults reads p h t j r
   started_at {T} reads h t j k v w result r slot plan at puts rows room acts is =
       let at' : h.sources (source_slot p j) ≡ Some v = subst (λ k. h.sources k ≡ Some v) slot at in
       let puts' : PutsSource h t (source_slot p j) w = subst (λ k. PutsSource h t k w) slot puts in
@@ -33,7 +33,7 @@ module _ {S : Type 0} (told : S → Option (List ℕ)) (faults : S → ℕ) (p :
         acts = it.acts;
         start = subst (λ (r : SourceRow). Start r (source_held told faults h (source_slot p j)) it.acts (start_end r')) row
             (subst (λ (s : SourceState). Start v.row s it.acts (start_end r')) (sym state) (subst (λ z. Start v.row (source_state told faults v) it.acts z) is it.start));
-        did = did_source told faults p h t j v w it.acts (source_at p (states_held told faults h) j) refl plan at' puts' rows it.state;
+        did = did_source told faults p reads h t j v w it.acts (source_at p (states_held told faults h) j) refl plan at' puts' rows it.state it.made;
       } where
         r' : Option SourceRefusal
         r' = r

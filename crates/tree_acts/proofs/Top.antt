@@ -18,13 +18,14 @@ use Rattle.tree_rules.specs.Chain.{Chain, SourceLink, source_of, named, asks_pr,
 use Rattle.tree_rules.specs.Replies.{chain_of, refusal, seeds_or_gives}
 use Rattle.tree_rules.specs.Works.{worked}
 use Rattle.tree_rules.specs.Fits.{AnswersBy, DrawsAndWorks, Follows, Serves, at_source, done, source_reply, found_by}
-use Rattle.tree_rules.specs.Served.{Served, entry_of}
+use Rattle.tree_rules.specs.Served.{entry_of}
 use Rattle.tree_rules.specs.Slots.{node_row}
 use Rattle.tree_rules.specs.Links.{Task, is_xor, is_rs}
 use Rattle.tree_rules.specs.Replies.{asked_count, count_limit}
 use Rattle.tree_acts.specs.Hold.{Hold, IsOfPlan, AreHeld, FewCounts, states_held}
 use Rattle.tree_acts.specs.Chained.{links_from, len_of, room_for, Ready}
 use Rattle.tree_acts.proofs.Free.{whole, able, names, brief, asks_len}
+use Rattle.tree_acts.specs.Made.{ServedBy}
 use Rattle.tree_acts.specs.Work.{Works, Worked}
 
 take_front : (xs ys : List ℕ) → take (length xs) (xs ++ ys) ≡ xs
@@ -85,22 +86,25 @@ serves_by found ch e (Start j) h d = cc
 serves_by found ch e (Status n) h d = cc
 
 module _ {S : Type 0} (told : S → Option (List ℕ)) (faults : S → ℕ) (p : Tree) where
-  pub served_by : (h t : Hold (SourceView S)) (c : Call) (string : List ℕ) (r : Option Reply) (bytes : List ℕ) → seeds_or_gives c ≡ true
+  pub served_by : (reads : S → ℕ → Option (List ℕ) → S → Type 0) (h t : Hold (SourceView S)) (c : Call) (string : List ℕ) (r : Option Reply) (bytes : List ℕ) → seeds_or_gives c ≡ true
       → (let s = states_held told faults h in refusal p c string (chain_of p s c string) ≡ None)
       → (let s = states_held told faults h in chain_of p s c string ≡ node_chain p s c)
-      → (let s = states_held told faults h in Worked told faults p h t (asks_pr c) string (node_chain p s c).links (node_chain p s c).source r bytes)
-      → Served p (states_held told faults h) (states_held told faults t) c string (reply_of r bytes) (bytes_of r bytes)
-  served_by h t c string r bytes what free whole w = record {
-    acts = w.acts;
-    fits = λ caller.
-        let e = entry_of p s c string (reply_of r bytes) (bytes_of r bytes) w.acts caller in
-        subst (λ (ch : Chain). Follows p (found_by ch.source) ch e) (sym whole)
-        (record {
-          chain_is = ap (λ (ch : Chain). slots_of ch) whole;
-          answer = subst (λ (o : Option Reply). MatchOption o (Serves (found_by ch.source) ch e c) (λ reply. AnswersBy e [] reply [])) (sym (subst (λ (ch : Chain). refusal p c string ch ≡ None) whole free))
-              (serves_by (found_by ch.source) ch e c what (works_draws c string ch.links ch.source r bytes w.acts e refl refl refl refl w.works));
-        });
-    leaves = w.did.states;
+      → (let s = states_held told faults h in Worked told faults reads p h t (asks_pr c) string (node_chain p s c).links (node_chain p s c).source r bytes)
+      → ServedBy told faults reads p h t c string (reply_of r bytes) (bytes_of r bytes)
+  served_by reads h t c string r bytes what free whole w = record {
+    served = record {
+      acts = w.acts;
+      fits = λ caller.
+          let e = entry_of p s c string (reply_of r bytes) (bytes_of r bytes) w.acts caller in
+          subst (λ (ch : Chain). Follows p (found_by ch.source) ch e) (sym whole)
+          (record {
+            chain_is = ap (λ (ch : Chain). slots_of ch) whole;
+            answer = subst (λ (o : Option Reply). MatchOption o (Serves (found_by ch.source) ch e c) (λ reply. AnswersBy e [] reply [])) (sym (subst (λ (ch : Chain). refusal p c string ch ≡ None) whole free))
+                (serves_by (found_by ch.source) ch e c what (works_draws c string ch.links ch.source r bytes w.acts e refl refl refl refl w.works));
+          });
+      leaves = w.did.states;
+    };
+    made = w.did.made;
   } where
     s : States
     s = states_held told faults h
@@ -112,6 +116,10 @@ module _ {S : Type 0} (told : S → Option (List ℕ)) (faults : S → ℕ) (p :
   room_top true len spare whole l e w = omega arith
   room_top false len spare whole l e w = omega arith
 
+  limit_high : (b : Bool) (len : ℕ) → len ≤ (if b then 4096 else 65536) → len ≤ 65536
+  limit_high true len l = omega (arith, l)
+  limit_high false len l = l
+
   -- the node that the call names, and the room behind the answer
   module _ (s : States) (c : Call) (string : List ℕ) (what : seeds_or_gives c ≡ true) (free : refusal p c string (chain_of p s c string) ≡ None) (range : IsPlanned 0 p) where
     free_whole : refusal p c string (node_chain p s c) ≡ None
@@ -119,6 +127,11 @@ module _ {S : Type 0} (told : S → Option (List ℕ)) (faults : S → ℕ) (p :
 
     pub named_there : named c < length p.nodes
     named_there = names p s c string what range free_whole
+
+    pub count_within : IsTree 8 p.nodes → asked_count c ≤ 65536
+    count_within tree =
+        limit_high (is_xor (node_row p (named c)).kind || is_rs (node_row p (named c)).kind) (asked_count c)
+        (subst (λ k. k ≤ count_limit (node_row p (named c)).kind) (asks_len c) (able p s c string what range free_whole 8 tree).few)
 
     pub room_behind : (out behind size : ℕ) → IsTree 8 p.nodes → out ≡ asked_count c → out + behind ≡ size → 65536 ≤ size
         → room_for (node_row p (named c)).kind (asked_count c) ≤ behind
@@ -153,13 +166,13 @@ module _ {S : Type 0} (told : S → Option (List ℕ)) (faults : S → ℕ) (p :
         room = omega (arith, spares);
       }))))
 
-  pub worked_top : (h t : Hold (SourceView S)) (c : Call) (string : List ℕ) (r : Option Reply) (bytes : List ℕ)
+  pub worked_top : (reads : S → ℕ → Option (List ℕ) → S → Type 0) (h t : Hold (SourceView S)) (c : Call) (string : List ℕ) (r : Option Reply) (bytes : List ℕ)
       → (pr : Bool) (task : Task) (n far : ℕ) → pr ≡ asks_pr c → task ≡ task_of c → n ≡ named c → far ≡ length p.nodes
-      → Worked told faults p h t pr string (links_from p (states_held told faults h) pr task far n) (source_of p (states_held told faults h) pr (last_link (links_from p (states_held told faults h) pr task far n))) r bytes
-      → Worked told faults p h t (asks_pr c) string (node_chain p (states_held told faults h) c).links (node_chain p (states_held told faults h) c).source r bytes
-  worked_top h t c string r bytes pr task n far e f g i w =
+      → Worked told faults reads p h t pr string (links_from p (states_held told faults h) pr task far n) (source_of p (states_held told faults h) pr (last_link (links_from p (states_held told faults h) pr task far n))) r bytes
+      → Worked told faults reads p h t (asks_pr c) string (node_chain p (states_held told faults h) c).links (node_chain p (states_held told faults h) c).source r bytes
+  worked_top reads h t c string r bytes pr task n far e f g i w =
       let s = states_held told faults h in
-      let R : Bool → Task → ℕ → ℕ → Type 0 = λ pr task n far. Worked told faults p h t pr string (links_from p s pr task far n) (source_of p s pr (last_link (links_from p s pr task far n))) r bytes in
+      let R : Bool → Task → ℕ → ℕ → Type 0 = λ pr task n far. Worked told faults reads p h t pr string (links_from p s pr task far n) (source_of p s pr (last_link (links_from p s pr task far n))) r bytes in
       subst (λ far. R (asks_pr c) (task_of c) (named c) far) i (subst (λ n. R (asks_pr c) (task_of c) n far) g (subst (λ task. R (asks_pr c) task n far) f (subst (λ pr. R pr task n far) e w)))
 
   no_bytes : (j : ℕ) (why : SourceRefusal) → (source_reply j why).len ≡ 0
@@ -183,27 +196,27 @@ module _ {S : Type 0} (told : S → Option (List ℕ)) (faults : S → ℕ) (p :
     by (Ok all) (a, b, c) = cc
     by (Err why) (a, b) = let is : r ≡ source_reply t.number why = cc in ap (λ (x : Reply). x.len) is ∙ no_bytes t.number why
 
-  pub no_len : (h t : Hold (SourceView S)) (pr : Bool) (string : List ℕ) (ls : List Link) (source : Option SourceLink) (r : Reply) (bytes : List ℕ)
-      → Worked told faults p h t pr string ls source (Some r) bytes → r.len ≡ 0
-  no_len h t pr string ls source r bytes w = refusal_len pr string ls source r bytes w.acts w.works
+  pub no_len : (reads : S → ℕ → Option (List ℕ) → S → Type 0) (h t : Hold (SourceView S)) (pr : Bool) (string : List ℕ) (ls : List Link) (source : Option SourceLink) (r : Reply) (bytes : List ℕ)
+      → Worked told faults reads p h t pr string ls source (Some r) bytes → r.len ≡ 0
+  no_len reads h t pr string ls source r bytes w = refusal_len pr string ls source r bytes w.acts w.works
 
   -- the bytes of the reply stand at the front of `out`
-  pub served_some : (h t : Hold (SourceView S)) (c : Call) (string : List ℕ) (r : Reply) (bytes all : List ℕ) → seeds_or_gives c ≡ true
+  pub served_some : (reads : S → ℕ → Option (List ℕ) → S → Type 0) (h t : Hold (SourceView S)) (c : Call) (string : List ℕ) (r : Reply) (bytes all : List ℕ) → seeds_or_gives c ≡ true
       → (let s = states_held told faults h in refusal p c string (chain_of p s c string) ≡ None)
-      → Worked told faults p h t (asks_pr c) string (node_chain p (states_held told faults h) c).links (node_chain p (states_held told faults h) c).source (Some r) bytes
-      → Served p (states_held told faults h) (states_held told faults t) c string r (take r.len all)
-  served_some h t c string r bytes all what free w =
+      → Worked told faults reads p h t (asks_pr c) string (node_chain p (states_held told faults h) c).links (node_chain p (states_held told faults h) c).source (Some r) bytes
+      → ServedBy told faults reads p h t c string r (take r.len all)
+  served_some reads h t c string r bytes all what free w =
       let s = states_held told faults h in
       let none : r.len ≡ 0 = refusal_len (asks_pr c) string (node_chain p s c).links (node_chain p s c).source r bytes w.acts w.works in
-      subst (λ k. Served p s (states_held told faults t) c string r (take k all)) (sym none)
-      (served_by h t c string (Some r) bytes what free (whole p s c string what free) w)
+      subst (λ k. ServedBy told faults reads p h t c string r (take k all)) (sym none)
+      (served_by reads h t c string (Some r) bytes what free (whole p s c string what free) w)
 
-  pub served_none : (h t : Hold (SourceView S)) (c : Call) (string : List ℕ) (bytes rest : List ℕ) (len : ℕ) → seeds_or_gives c ≡ true → len ≡ length bytes
+  pub served_none : (reads : S → ℕ → Option (List ℕ) → S → Type 0) (h t : Hold (SourceView S)) (c : Call) (string : List ℕ) (bytes rest : List ℕ) (len : ℕ) → seeds_or_gives c ≡ true → len ≡ length bytes
       → (let s = states_held told faults h in refusal p c string (chain_of p s c string) ≡ None)
-      → Worked told faults p h t (asks_pr c) string (node_chain p (states_held told faults h) c).links (node_chain p (states_held told faults h) c).source None bytes
-      → Served p (states_held told faults h) (states_held told faults t) c string (record { code = 0; a = 0; b = 0; len = len }) (take len (bytes ++ rest))
-  served_none h t c string bytes rest len what e free w =
+      → Worked told faults reads p h t (asks_pr c) string (node_chain p (states_held told faults h) c).links (node_chain p (states_held told faults h) c).source None bytes
+      → ServedBy told faults reads p h t c string (record { code = 0; a = 0; b = 0; len = len }) (take len (bytes ++ rest))
+  served_none reads h t c string bytes rest len what e free w =
       let s = states_held told faults h in
-      subst (λ k. Served p s (states_held told faults t) c string (record { code = 0; a = 0; b = 0; len = k }) (take k (bytes ++ rest))) (sym e)
-      (subst (λ z. Served p s (states_held told faults t) c string (done bytes) z) (sym (take_front bytes rest))
-      (served_by h t c string None bytes what free (whole p s c string what free) w))
+      subst (λ k. ServedBy told faults reads p h t c string (record { code = 0; a = 0; b = 0; len = k }) (take k (bytes ++ rest))) (sym e)
+      (subst (λ z. ServedBy told faults reads p h t c string (done bytes) z) (sym (take_front bytes rest))
+      (served_by reads h t c string None bytes what free (whole p s c string what free) w))

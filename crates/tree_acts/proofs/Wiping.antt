@@ -1,6 +1,6 @@
 -- Bytes that stay, and bytes that are wiped.
 use Rattle.std.proofs.Common.{◌≡◌, ◌++◌, ◌∷◌, ℕ, List, [], zero, suc, length, refl, inl, inr, arith}
-use Rattle.std.specs.Prelude.{replicate, drop}
+use Rattle.std.specs.Prelude.{replicate}
 use Rattle.std.proofs.lemmas.List.{drop_at}
 use Rattle.tree_acts.specs.Wiped.{AreKeptOrZeros, IsWipedBehind}
 

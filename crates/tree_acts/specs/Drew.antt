@@ -20,12 +20,12 @@ pub record Runs {S : Type 0} (told : S → Option (List ℕ)) (faults : S → �
   pub room : (source_held told faults h (source_slot p j)).taken + more ≤ 2 ^ 60
 
 -- the lengths were drawn from source j, with these strings, or refused
-pub record Drew {S : Type 0} (told : S → Option (List ℕ)) (faults : S → ℕ) (p : Tree) (h t : Hold (SourceView S)) (j : ℕ) (lens : List ℕ) (result : Option SourceRefusal)
-    (strings : List (List ℕ)) : Type 0 where
+pub record Drew {S : Type 0} (told : S → Option (List ℕ)) (faults : S → ℕ) (reads : S → ℕ → Option (List ℕ) → S → Type 0) (p : Tree) (h t : Hold (SourceView S)) (j : ℕ)
+    (lens : List ℕ) (result : Option SourceRefusal) (strings : List (List ℕ)) : Type 0 where
   pub acts : List SourceAct
   pub end : Result (List ℕ) SourceRefusal
   pub draw : Drawn (source_row p j) (found_by (Some (source_at p (states_held told faults h) j))) (source_held told faults h (source_slot p j)) lens acts end
-  pub did : Did told faults p h t (map (at_source (source_at p (states_held told faults h) j)) acts)
+  pub did : Did told faults reads p h t (map (at_source (source_at p (states_held told faults h) j)) acts)
   pub answer : MatchResult end (λ all. (result ≡ None) × (strings ≡ portions (source_row p j) lens all)) (λ why. result ≡ Some why)
   pub mode : result ≡ None → (source_held told faults t (source_slot p j)).mode ≡ Running
   pub taken : result ≡ None → (source_held told faults t (source_slot p j)).taken ≡ (source_held told faults h (source_slot p j)).taken + need_of (source_row p j) lens
@@ -37,7 +37,8 @@ start_end None = Ok []
 start_end (Some why) = Err why
 
 -- source j was started, or refused
-pub record Started {S : Type 0} (told : S → Option (List ℕ)) (faults : S → ℕ) (p : Tree) (h t : Hold (SourceView S)) (j : ℕ) (result : Option SourceRefusal) : Type 0 where
+pub record Started {S : Type 0} (told : S → Option (List ℕ)) (faults : S → ℕ) (reads : S → ℕ → Option (List ℕ) → S → Type 0) (p : Tree) (h t : Hold (SourceView S)) (j : ℕ)
+    (result : Option SourceRefusal) : Type 0 where
   pub acts : List SourceAct
   pub start : Start (source_row p j) (source_held told faults h (source_slot p j)) acts (start_end result)
-  pub did : Did told faults p h t (map (at_source (source_at p (states_held told faults h) j)) acts)
+  pub did : Did told faults reads p h t (map (at_source (source_at p (states_held told faults h) j)) acts)

@@ -12,13 +12,13 @@ use Rattle.tree_acts.specs.Did.{Did}
 use Rattle.tree_acts.specs.Drew.{Drew}
 use Rattle.tree_acts.specs.Work.{seeded_part}
 
-pub record SourceWorked {S : Type 0} (told : S → Option (List ℕ)) (faults : S → ℕ) (p : Tree) (h u : Hold (SourceView S)) (pr : Bool) (string : List ℕ) (l : Link) (j : ℕ)
-    (r : Option SourceRefusal) (bytes : List ℕ) : Type 0 where
+pub record SourceWorked {S : Type 0} (told : S → Option (List ℕ)) (faults : S → ℕ) (reads : S → ℕ → Option (List ℕ) → S → Type 0) (p : Tree) (h u : Hold (SourceView S)) (pr : Bool)
+    (string : List ℕ) (l : Link) (j : ℕ) (r : Option SourceRefusal) (bytes : List ℕ) : Type 0 where
   pub mid : Hold (SourceView S)
   pub strings : List (List ℕ)
-  pub drew : Drew told faults p h mid j (wanted pr l) r strings
+  pub drew : Drew told faults reads p h mid j (wanted pr l) r strings
   pub acts : List Act
-  pub did : Did told faults p mid u acts
+  pub did : Did told faults reads p mid u acts
   pub works : MatchOption r (let w = task_work pr strings string l [] l.task in (acts ≡ w.acts) × (bytes ≡ w.bytes)) (λ why. acts ≡ [])
 
 -- the node draws one string, for its seeding

@@ -1,13 +1,13 @@
 -- What a call holds of a tree: some of its nodes and sources, at their slots, and the states that they stand for.
 -- This project's own.
-use Rattle.std.specs.Prelude.{◌≡◌, ◌≢◌, ◌<◌, ◌≤◌, ◌⊎◌, ◌^◌, ◌+◌, ℕ, List, length, Option, Some, None, IsSome, true}
+use Rattle.std.specs.Prelude.{◌≡◌, ◌≢◌, ◌≤◌, ◌⊎◌, ◌^◌, ◌+◌, ℕ, List, Option, Some, None, IsSome, true}
 use Rattle.tree_config.specs.Tree.{Tree}
 use Rattle.entropy_source.specs.Views.{SourceView, source_state}
 use Rattle.rbg_nodes.specs.Node.{NodeState, fresh_node}
 use Rattle.entropy_source.specs.Source.{SourceState}
 use Rattle.rbg_nodes.specs.Views.{NodeView}
 use Rattle.tree_rules.specs.History.{SlotState, NodeIs, SourceIs, States, node_in, source_in, has}
-use Rattle.tree_rules.specs.Slots.{node_row, source_row, source_number}
+pub use Rattle.tree_rules.specs.Stands.{IsNodeOf, IsSourceOf}
 
 -- what is held at each slot
 pub record Hold (V : Type 0) : Type 0 where
@@ -36,16 +36,6 @@ states_held told faults h k = state_held told faults (h.nodes k) (h.sources k)
 
 abbrev pub IsHeld : {V : Type 0} → Hold V → ℕ → Type 0
 IsHeld h k = IsSome (h.nodes k) ⊎ IsSome (h.sources k)
-
--- a node or a source that is held at a slot of the plan, and is the one planned there
-pub record IsNodeOf (p : Tree) (k : ℕ) (v : NodeView) : Type 0 where
-  pub low : k < length p.nodes
-  pub row : v.row ≡ node_row p k
-
-pub record IsSourceOf {S : Type 0} (p : Tree) (k : ℕ) (v : SourceView S) : Type 0 where
-  pub high : length p.nodes ≤ k
-  pub low : source_number p k < length p.sources
-  pub row : v.row ≡ source_row p (source_number p k)
 
 -- what is held is of the plan
 pub record IsOfPlan {S : Type 0} (p : Tree) (h : Hold (SourceView S)) : Type 0 where

@@ -6,6 +6,7 @@ pub mod Work
 pub mod Plain
 pub mod Plainly
 pub mod Drew
+pub mod Made
 pub mod Kept
 pub mod Ends
 pub mod Pieces

@@ -1,6 +1,6 @@
 -- A node of a chain in plain numbers: what a refusal reads of it, and what is asked of it.
 -- This project's own.
-use Rattle.std.specs.Prelude.{ℕ, List, [], ◌∷◌, ◌&&◌, length, slice_get, unwrap_or, nat_lt, if◌then◌else◌, Bool, true, false, Option, Some, None}
+use Rattle.std.specs.Prelude.{ℕ, List, [], ◌∷◌, ◌&&◌, if◌then◌else◌, Bool, true, false, Option, Some, None}
 use Rattle.tree_config.specs.declared.plan.Origin.{Origin}
 use Rattle.tree_config.specs.declared.plan.Origin.TheVariants.{Source}
 use Rattle.rbg_nodes.specs.Node.{NodeState, New, Renew, fresh_node}

@@ -33,8 +33,8 @@ Works pr string ls (Some t) result bytes acts =
     (λ why. (result ≡ Some (source_reply t.number why)) × (acts ≡ map (at_source t) drawn))
 
 -- the same, done to what is held
-pub record Worked {S : Type 0} (told : S → Option (List ℕ)) (faults : S → ℕ) (p : Tree) (h t : Hold (SourceView S)) (pr : Bool) (string : List ℕ) (ls : List Link)
-    (source : Option SourceLink) (result : Option Reply) (bytes : List ℕ) : Type 0 where
+pub record Worked {S : Type 0} (told : S → Option (List ℕ)) (faults : S → ℕ) (reads : S → ℕ → Option (List ℕ) → S → Type 0) (p : Tree) (h t : Hold (SourceView S)) (pr : Bool)
+    (string : List ℕ) (ls : List Link) (source : Option SourceLink) (result : Option Reply) (bytes : List ℕ) : Type 0 where
   pub acts : List Act
-  pub did : Did told faults p h t acts
+  pub did : Did told faults reads p h t acts
   pub works : Works pr string ls source result bytes acts

@@ -27,7 +27,7 @@ pub(crate) fn seed_at<S: Samples, H: Holdings<EntropySource<S>>>(
     requires few { (node_held S.told S.faults (H.what hold.old) n).seeds < 2 ^ 62 }
     requires material { length material.now ≡ seed_len (node_row plan.now n) New }
     requires string { length string.now ≤ 65536 }
-    ensures { Did S.told S.faults plan.now (H.what hold.old) (H.what hold.new)
+    ensures { Did S.told S.faults S.reads plan.now (H.what hold.old) (H.what hold.new)
         (record { slot = n; act = AtNode (Seeded New material.now string.now) } ∷ []) }
 {
     let _plan = plan;
@@ -48,7 +48,7 @@ pub(crate) fn reseed_at<S: Samples, H: Holdings<EntropySource<S>>>(
     requires few { (node_held S.told S.faults (H.what hold.old) n).seeds < 2 ^ 62 }
     requires material { length material.now ≤ 65536 }
     requires string { length string.now ≤ 65536 }
-    ensures { Did S.told S.faults plan.now (H.what hold.old) (H.what hold.new)
+    ensures { Did S.told S.faults S.reads plan.now (H.what hold.old) (H.what hold.new)
         (record { slot = n; act = AtNode (Seeded Renew material.now string.now) } ∷ []) }
 {
     let _plan = plan;
@@ -70,7 +70,7 @@ pub(crate) fn give_at<S: Samples, H: Holdings<EntropySource<S>>>(
     requires few { (node_held S.told S.faults (H.what hold.old) n).gives < 2 ^ 62 }
     requires add { length add.now ≤ 65536 }
     requires out { length out.old ≤ 65536 }
-    ensures did { Did S.told S.faults plan.now (H.what hold.old) (H.what hold.new)
+    ensures did { Did S.told S.faults S.reads plan.now (H.what hold.old) (H.what hold.new)
         (record { slot = n; act = AtNode (Gave add.now (length out.old) out.new) } ∷ []) }
     ensures bytes { out.new ≡ given_bytes (node_row plan.now n) (node_held S.told S.faults (H.what hold.old) n) add.now (length out.old) }
 {
@@ -91,7 +91,7 @@ pub(crate) fn draw_at<S: Samples, H: Holdings<EntropySource<S>>>(
     requires some { 0 < length out.old }
     requires few { length out.old ≤ 4096 }
     requires runs { Runs S.told S.faults plan.now (H.what hold.old) j (need_of (source_row plan.now j) (length out.old ∷ [])) }
-    ensures { Drew S.told S.faults plan.now (H.what hold.old) (H.what hold.new) j (length out.old ∷ []) result (out.new ∷ []) }
+    ensures { Drew S.told S.faults S.reads plan.now (H.what hold.old) (H.what hold.new) j (length out.old ∷ []) result (out.new ∷ []) }
 {
     let slot = plan.nodes() + u16::from(j);
     let _taken = hold.source(slot).taken();
@@ -115,7 +115,7 @@ pub(crate) fn seed_own_at<S: Samples, H: Holdings<EntropySource<S>>>(
     requires kept { IsSome (node_held S.told S.faults (H.what hold.old) n).kept }
     requires few { (node_held S.told S.faults (H.what hold.old) n).seeds < 2 ^ 62 }
     requires string { length string.now ≤ 65536 }
-    ensures { Did S.told S.faults plan.now (H.what hold.old) (H.what hold.new)
+    ensures { Did S.told S.faults S.reads plan.now (H.what hold.old) (H.what hold.new)
         (record { slot = n; act = AtNode (Seeded New (take (seed_len (node_row plan.now n) New) (unwrap_or (node_held S.told S.faults (H.what hold.old) n).kept [])) string.now) } ∷ []) }
 {
     let _plan = plan;
@@ -127,7 +127,7 @@ pub(crate) fn seed_own_at<S: Samples, H: Holdings<EntropySource<S>>>(
 pub fn clear_at<S: Samples, H: Holdings<EntropySource<S>>>(plan: &TreePlan, hold: &mut H, n: u16)
     requires plan { IsOfPlan plan.now (H.what hold.old) }
     requires there { IsSome ((H.what hold.old).nodes n) }
-    ensures { Did S.told S.faults plan.now (H.what hold.old) (H.what hold.new) (record { slot = n; act = AtNode Cleared } ∷ []) }
+    ensures { Did S.told S.faults S.reads plan.now (H.what hold.old) (H.what hold.new) (record { slot = n; act = AtNode Cleared } ∷ []) }
 {
     let _plan = plan;
     hold.node_mut(n).clear();
@@ -143,7 +143,7 @@ pub fn start_at<S: Samples, H: Holdings<EntropySource<S>>>(
     requires planned { j < length plan.now.sources }
     requires there { IsSome ((H.what hold.old).sources (source_slot plan.now j)) }
     requires room { (source_held S.told S.faults (H.what hold.old) (source_slot plan.now j)).taken + (source_row plan.now j).startup ≤ 2 ^ 60 }
-    ensures { Started S.told S.faults plan.now (H.what hold.old) (H.what hold.new) j result }
+    ensures { Started S.told S.faults S.reads plan.now (H.what hold.old) (H.what hold.new) j result }
 {
     let _few = plan.sources();
     let slot = plan.nodes() + j;

@@ -32,7 +32,7 @@ pub(crate) fn climb<S: Samples, H: Holdings<EntropySource<S>>>(
 ) -> Option<Reply>
     requires { Ready S.told S.faults plan.now (H.what hold.old) pr (task_in asked) n
         (links_held S.told S.faults plan.now (H.what hold.old) pr (task_in asked) far n) (length string.now) (length out.old) (length spare.old) }
-    ensures { Worked S.told S.faults plan.now (H.what hold.old) (H.what hold.new) pr string.now
+    ensures { Worked S.told S.faults S.reads plan.now (H.what hold.old) (H.what hold.new) pr string.now
         (links_held S.told S.faults plan.now (H.what hold.old) pr (task_in asked) far n)
         (source_of plan.now (states_held S.told S.faults (H.what hold.old)) pr
         (last_link (links_held S.told S.faults plan.now (H.what hold.old) pr (task_in asked) far n)))

@@ -38,7 +38,7 @@ pub(crate) fn own_work<S: Samples, H: Holdings<EntropySource<S>>>(
     requires ready { Ready S.told S.faults plan.now (H.what hold.old) pr (task_in asked) n
         (link_held S.told S.faults plan.now (H.what hold.old) (task_in asked) n ∷ []) (length string.now) (length out.old) (length spare.old) }
     requires none { source_of plan.now (states_held S.told S.faults (H.what hold.old)) pr (link_held S.told S.faults plan.now (H.what hold.old) (task_in asked) n) ≡ None }
-    ensures did { Did S.told S.faults plan.now (H.what hold.old) (H.what hold.new)
+    ensures did { Did S.told S.faults S.reads plan.now (H.what hold.old) (H.what hold.new)
         (task_work pr [] string.now (link_held S.told S.faults plan.now (H.what hold.old) (task_in asked) n) [] (task_in asked)).acts }
     ensures bytes { out.new ≡ (task_work pr [] string.now (link_held S.told S.faults plan.now (H.what hold.old) (task_in asked) n) [] (task_in asked)).bytes }
 {
@@ -76,7 +76,7 @@ pub(crate) fn seed_work<S: Samples, H: Holdings<EntropySource<S>>>(
     requires on { source_of plan.now (states_held S.told S.faults (H.what hold.old)) pr (link_held S.told S.faults plan.now (H.what hold.old) (task_in asked) n)
         ≡ Some (source_at plan.now (states_held S.told S.faults (H.what hold.old)) j) }
     requires alone { SeedsAlone pr string.now (link_held S.told S.faults plan.now (H.what hold.old) (task_in asked) n) }
-    ensures { SourceWorked S.told S.faults plan.now (H.what hold.old) (H.what hold.new) pr string.now
+    ensures { SourceWorked S.told S.faults S.reads plan.now (H.what hold.old) (H.what hold.new) pr string.now
         (link_held S.told S.faults plan.now (H.what hold.old) (task_in asked) n) j result out.new }
 {
     let _spare = spare;
@@ -111,7 +111,7 @@ pub(crate) fn source_work<S: Samples, H: Holdings<EntropySource<S>>>(
     requires planned { j < length plan.now.sources }
     requires on { source_of plan.now (states_held S.told S.faults (H.what hold.old)) pr (link_held S.told S.faults plan.now (H.what hold.old) (task_in asked) n)
         ≡ Some (source_at plan.now (states_held S.told S.faults (H.what hold.old)) j) }
-    ensures { SourceWorked S.told S.faults plan.now (H.what hold.old) (H.what hold.new) pr string.now
+    ensures { SourceWorked S.told S.faults S.reads plan.now (H.what hold.old) (H.what hold.new) pr string.now
         (link_held S.told S.faults plan.now (H.what hold.old) (task_in asked) n) j result out.new }
 {
     let kind = plan.node(n).kind;
@@ -138,7 +138,7 @@ pub(crate) fn end_work<S: Samples, H: Holdings<EntropySource<S>>>(
 ) -> Option<Reply>
     requires { Ready S.told S.faults plan.now (H.what hold.old) pr (task_in asked) n
         (link_held S.told S.faults plan.now (H.what hold.old) (task_in asked) n ∷ []) (length string.now) (length out.old) (length spare.old) }
-    ensures { Worked S.told S.faults plan.now (H.what hold.old) (H.what hold.new) pr string.now
+    ensures { Worked S.told S.faults S.reads plan.now (H.what hold.old) (H.what hold.new) pr string.now
         (link_held S.told S.faults plan.now (H.what hold.old) (task_in asked) n ∷ [])
         (source_of plan.now (states_held S.told S.faults (H.what hold.old)) pr (link_held S.told S.faults plan.now (H.what hold.old) (task_in asked) n))
         result out.new }

@@ -32,7 +32,7 @@ fn draw_some<S: Samples, H: Holdings<EntropySource<S>>>(
     requires there { IsSome ((H.what hold.old).sources (source_slot plan.now j)) }
     requires few { length out.old ≤ 4096 }
     requires runs { Runs S.told S.faults plan.now (H.what hold.old) j (need_of (source_row plan.now j) (some_len (length out.old))) }
-    ensures { Drew S.told S.faults plan.now (H.what hold.old) (H.what hold.new) j (some_len (length out.old)) result (some_string out.new) }
+    ensures { Drew S.told S.faults S.reads plan.now (H.what hold.old) (H.what hold.new) j (some_len (length out.old)) result (some_string out.new) }
 {
     let _few = hold.source(plan.nodes() + u16::from(j)).taken();
     if out.is_empty() {
@@ -61,7 +61,7 @@ pub(crate) fn mix_plain<S: Samples, H: Holdings<EntropySource<S>>>(
     requires xor { is_xor (node_row plan.now n).kind ≡ true }
     requires gives { task_in asked ≡ Gives (len_of (task_in asked)) }
     requires must { must_seed pr (link_held S.told S.faults plan.now (H.what hold.old) (task_in asked) n) ≡ false }
-    ensures { SourceWorked S.told S.faults plan.now (H.what hold.old) (H.what hold.new) pr string.now
+    ensures { SourceWorked S.told S.faults S.reads plan.now (H.what hold.old) (H.what hold.new) pr string.now
         (link_held S.told S.faults plan.now (H.what hold.old) (task_in asked) n) j result out.new }
 {
     let _pr = pr;
@@ -96,7 +96,7 @@ pub(crate) fn mix_seeded<S: Samples, H: Holdings<EntropySource<S>>>(
     requires xor { is_xor (node_row plan.now n).kind ≡ true }
     requires gives { task_in asked ≡ Gives (len_of (task_in asked)) }
     requires must { must_seed pr (link_held S.told S.faults plan.now (H.what hold.old) (task_in asked) n) ≡ true }
-    ensures { SourceWorked S.told S.faults plan.now (H.what hold.old) (H.what hold.new) pr string.now
+    ensures { SourceWorked S.told S.faults S.reads plan.now (H.what hold.old) (H.what hold.new) pr string.now
         (link_held S.told S.faults plan.now (H.what hold.old) (task_in asked) n) j result out.new }
 {
     let _pr = pr;

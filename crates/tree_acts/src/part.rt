@@ -35,7 +35,7 @@ pub(crate) fn part_at<S: Samples, H: Holdings<EntropySource<S>>>(
     requires string { length string.now ≤ 65536 }
     requires asks { length out.old ≡ len_of (task_in asked) }
     requires out { length out.old ≤ 65536 }
-    ensures did { Did S.told S.faults plan.now (H.what hold.old) (H.what hold.new)
+    ensures did { Did S.told S.faults S.reads plan.now (H.what hold.old) (H.what hold.new)
         (seeded_part (link plan.now n (task_in asked) (states_held S.told S.faults (H.what hold.old) n)) material.now string.now (task_in asked)).acts }
     ensures bytes { out.new ≡ (seeded_part (link plan.now n (task_in asked) (states_held S.told S.faults (H.what hold.old) n)) material.now string.now (task_in asked)).bytes }
 {

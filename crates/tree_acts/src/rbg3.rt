@@ -36,7 +36,7 @@ pub(crate) fn rs_work<S: Samples, H: Holdings<EntropySource<S>>>(
         ≡ Some (source_at plan.now (states_held S.told S.faults (H.what hold.old)) j) }
     requires rs { is_rs (node_row plan.now n).kind ≡ true }
     requires gives { task_in asked ≡ Gives (len_of (task_in asked)) }
-    ensures { SourceWorked S.told S.faults plan.now (H.what hold.old) (H.what hold.new) pr string.now
+    ensures { SourceWorked S.told S.faults S.reads plan.now (H.what hold.old) (H.what hold.new) pr string.now
         (link_held S.told S.faults plan.now (H.what hold.old) (task_in asked) n) j result out.new }
 {
     let step = step_at(plan, hold, n, asked);
@@ -70,7 +70,7 @@ pub(crate) fn xor_work<S: Samples, H: Holdings<EntropySource<S>>>(
         ≡ Some (source_at plan.now (states_held S.told S.faults (H.what hold.old)) j) }
     requires xor { is_xor (node_row plan.now n).kind ≡ true }
     requires gives { task_in asked ≡ Gives (len_of (task_in asked)) }
-    ensures { SourceWorked S.told S.faults plan.now (H.what hold.old) (H.what hold.new) pr string.now
+    ensures { SourceWorked S.told S.faults S.reads plan.now (H.what hold.old) (H.what hold.new) pr string.now
         (link_held S.told S.faults plan.now (H.what hold.old) (task_in asked) n) j result out.new }
 {
     let step = step_at(plan, hold, n, asked);

@@ -31,7 +31,7 @@ pub(crate) fn draw_strings<S: Samples, H: Holdings<EntropySource<S>>>(
     requires size { (0 < size) × (size ≤ 40) }
     requires room { count * size ≤ length spare.old }
     requires runs { Runs S.told S.faults plan.now (H.what hold.old) j (need_of (source_row plan.now j) (same_lens count size)) }
-    ensures { Drew S.told S.faults plan.now (H.what hold.old) (H.what hold.new) j (same_lens count size) result (pieces count size spare.new) }
+    ensures { Drew S.told S.faults S.reads plan.now (H.what hold.old) (H.what hold.new) j (same_lens count size) result (pieces count size spare.new) }
 {
     let _few = hold.source(plan.nodes() + u16::from(j)).taken();
     if count == 0 {
@@ -66,7 +66,7 @@ pub(crate) fn give_chunks<S: Samples, H: Holdings<EntropySource<S>>>(
     requires strings { count * (entropy + 8) ≤ length strings.now }
     requires out { length out.old ≤ count * entropy }
     requires string { length string.now ≤ 4096 }
-    ensures did { Did S.told S.faults plan.now (H.what hold.old) (H.what hold.new)
+    ensures did { Did S.told S.faults S.reads plan.now (H.what hold.old) (H.what hold.new)
         (chunked (link plan.now n Rests (states_held S.told S.faults (H.what hold.old) n)) (node_held S.told S.faults (H.what hold.old) n) string.now
         (pieces count (entropy + 8) strings.now) (chunk_lens count entropy (length out.old))).acts }
     ensures bytes { out.new ≡

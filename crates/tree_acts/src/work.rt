@@ -3,10 +3,10 @@ ghost use Rattle.std.specs.Prelude.{◌≡◌, ◌≤◌, ◌<◌, ℕ, List, []
 ghost use Rattle.tree_rules.specs.Chain.{named, slots_of};
 ghost use Rattle.tree_rules.specs.Slots.{node_row};
 ghost use Rattle.tree_rules.specs.Replies.{asked_count, chain_of, refusal, seeds_or_gives};
-ghost use Rattle.tree_rules.specs.Served.{Served};
 ghost use Rattle.tree_acts.specs.Hold.{IsOfPlan, AreHeld, FewCounts, states_held};
 ghost use Rattle.tree_acts.specs.Chained.{room_for};
 ghost use Rattle.tree_acts.specs.Kept.{SameRows};
+ghost use Rattle.tree_acts.specs.Made.{ServedBy};
 ghost use Rattle.tree_acts.specs.Wiped.{IsWipedBehind};
 
 use crate::climb::climb;
@@ -56,8 +56,8 @@ pub fn chain_work<S: Samples, H: Holdings<EntropySource<S>>>(
     requires free { refusal plan.now call input.now (chain_of plan.now (states_held S.told S.faults (H.what hold.old)) call input.now) ≡ None }
     requires counts { FewCounts (H.what hold.old) }
     requires room { 65536 ≤ length out.old }
-    ensures served { Served plan.now (states_held S.told S.faults (H.what hold.old)) (states_held S.told S.faults (H.what hold.new)) call input.now
-        result (take result.len out.new) }
+    ensures served { ServedBy S.told S.faults S.reads plan.now (H.what hold.old) (H.what hold.new) call input.now result (take result.len out.new) }
+    ensures within { result.len ≤ 65536 }
     ensures rows { SameRows (H.what hold.old) (H.what hold.new) }
     ensures behind { IsWipedBehind result.len out.old out.new }
 {

@@ -10,7 +10,7 @@ use Rattle.rbg_nodes.specs.Views.{NodeView}
 use Rattle.tree_rules.specs.declared.call.Call.{Call}
 use Rattle.tree_rules.specs.declared.reply.Reply.{Reply}
 use Rattle.tree_rules.specs.Slots.{source_row, source_slot}
-use Rattle.tree_rules.specs.History.{Entry, Opening, States, NodeIs, SourceIs, after, has, opened, own, slot_after_all, states_after}
+use Rattle.tree_rules.specs.History.{Entry, Opening, States, NodeIs, SourceIs, acts_of, after, has, opened, own, slot_after_all, states_after}
 use Rattle.tree_rules.specs.Fits.{Fits, Legal}
 use Rattle.tree_rules.specs.Served.{Served, entry_of}
 use Rattle.tree_rules.specs.Openings.{IsHistory, states_behind}
@@ -20,10 +20,13 @@ use Rattle.tree_rules.proofs.Parting.{place_of, apart}
 use Rattle.tree_rules.proofs.Plans.{takes_samples}
 use Rattle.tree_rules.proofs.Quieting.{quiet}
 use Rattle.tree_acts.specs.Hold.{IsHeld}
+use Rattle.tree_acts.specs.Made.{ServedBy}
 use Rattle.tree_core.specs.Opened.{OpenedBy}
+use Rattle.tree_core.specs.Made.{AreReads, samples_in}
 use Rattle.tree_core.specs.Reasons.{HasReason}
 use Rattle.tree_core.specs.Solo.{GoesOn, StandIn, StandAfter}
 use Rattle.tree_core.specs.Whole.{AreOfPlan, all_held, source_behind, states_of}
+use Rattle.tree_core.proofs.Made.{acts_more, reads_held, reads_none, reads_on, samples_count}
 use Rattle.tree_core.proofs.Wholes.{behind_at, chain_held}
 
 module _ {S : Type 0} (told : S → Option (List ℕ)) (faults : S → ℕ) (p : Tree) where
@@ -101,10 +104,12 @@ module _ {S : Type 0} (told : S → Option (List ℕ)) (faults : S → ℕ) (p :
           (now.rows.source (source_slot p j) v some).row ∙ ap (λ k. source_row p k) (place_of (length p.nodes) j)
 
 -- a history goes on with the entry of a call
-module _ {S : Type 0} (told : S → Option (List ℕ)) (faults : S → ℕ) (f : Opening) (o h : List Entry) (is : IsHistory f o h) (nodes ns : List NodeView) (sources ss : List (SourceView S)) where
+module _ {S : Type 0} (told : S → Option (List ℕ)) (faults : S → ℕ) (reads : S → ℕ → Option (List ℕ) → S → Type 0) (f : Opening) (o h : List Entry) (is : IsHistory f o h) (nodes ns : List NodeView) (sources ss : List (SourceView S)) where
   pub goes_on : StandAfter told faults f o h nodes sources → AreOfPlan f.plan nodes sources → AreOfPlan f.plan ns ss → (c : Call) (string : List ℕ) (reply : Reply) (bytes : List ℕ)
-      → Served f.plan (states_of told faults nodes sources) (states_of told faults ns ss) c string reply bytes → ((e : Entry) → Fits f.plan (states_behind f o h) e → HasReason f.plan (states_behind f o h) e) → GoesOn told faults f o h c string reply bytes ns ss
-  goes_on stand are now c string reply bytes served reason =
+      → ServedBy told faults reads f.plan (all_held nodes sources) (all_held ns ss) c string reply bytes → ((e : Entry) → Fits f.plan (states_behind f o h) e → HasReason f.plan (states_behind f o h) e)
+      → GoesOn told faults reads f o h (samples_in sources) c string reply bytes ns ss
+  goes_on stand are now c string reply bytes by reason =
+      let served = by.served in
       let range = is.opening.planned in let tree = is.opening.tree in
       let e = entry told faults f.plan range tree (states_behind f o h) nodes ns sources ss stand are now c string reply bytes served 1 in
       let fit = fits_in told faults f.plan range tree (states_behind f o h) nodes ns sources ss stand are now c string reply bytes served 1 in
@@ -123,14 +128,17 @@ module _ {S : Type 0} (told : S → Option (List ℕ)) (faults : S → ℕ) (f :
         reason = reason e fit;
         stand = subst (λ s. StandIn told faults f.plan s ns ss) (sym (states_parts f.plan (states_after f.plan (opened f) o) h (e ∷ [])))
             (stand_now told faults f.plan range tree (states_behind f o h) nodes ns sources ss stand are now c string reply bytes served 1);
+        made = reads_held reads faults f.plan nodes ns sources ss served.acts are now by.made;
       }
 
 -- an opening call more
-module _ {S : Type 0} (told : S → Option (List ℕ)) (faults : S → ℕ) (f : Opening) (range : IsPlanned 0 f.plan) (tree : IsTree 8 f.plan.nodes)
-    (nodes ns : List NodeView) (sources ss : List (SourceView S)) where
-  pub one_opened_more : (calls : List Call) → OpenedBy told faults f calls nodes sources → AreOfPlan f.plan nodes sources → AreOfPlan f.plan ns ss → (c : Call) (reply : Reply) (bytes : List ℕ)
-      → Served f.plan (states_of told faults nodes sources) (states_of told faults ns ss) c [] reply bytes → OpenedBy told faults f (calls ++ c ∷ []) ns ss
-  one_opened_more calls by are now c reply bytes served =
+module _ {S : Type 0} (told : S → Option (List ℕ)) (faults : S → ℕ) (reads : S → ℕ → Option (List ℕ) → S → Type 0) (f : Opening) (range : IsPlanned 0 f.plan) (tree : IsTree 8 f.plan.nodes)
+    (samples : List S) (nodes ns : List NodeView) (sources ss : List (SourceView S)) (count : length samples ≡ length f.plan.sources) where
+  pub one_opened_more : (calls : List Call) → OpenedBy told faults reads f samples calls nodes sources → AreOfPlan f.plan nodes sources → AreOfPlan f.plan ns ss → (c : Call) (reply : Reply) (bytes : List ℕ)
+      → ServedBy told faults reads f.plan (all_held nodes sources) (all_held ns ss) c [] reply bytes → OpenedBy told faults reads f samples (calls ++ c ∷ []) ns ss
+  one_opened_more calls by are now c reply bytes answer =
+      let served = answer.served in
+      let many : length (samples_in sources) ≡ length samples = samples_count sources ∙ (are.source_count ∙ sym count) in
       let s = states_after f.plan (opened f) by.o in
       let e = entry told faults f.plan range tree s nodes ns sources ss by.stand are now c [] reply bytes served 0 in
       record {
@@ -141,13 +149,25 @@ module _ {S : Type 0} (told : S → Option (List ℕ)) (faults : S → ℕ) (f :
         legal = joined f.plan (opened f) by.o (e ∷ []) by.legal (fits_in told faults f.plan range tree s nodes ns sources ss by.stand are now c [] reply bytes served 0, tt);
         stand = subst (λ s. StandIn told faults f.plan s ns ss) (sym (states_parts f.plan (opened f) by.o (e ∷ [])))
             (stand_now told faults f.plan range tree s nodes ns sources ss by.stand are now c [] reply bytes served 0);
+        made = subst (λ z. AreReads reads faults f.plan samples (samples_in ss) z) (sym (acts_more by.o e))
+            (reads_on reads faults f.plan samples (samples_in sources) (samples_in ss) (acts_of by.o) served.acts many by.made
+            (reads_held reads faults f.plan nodes ns sources ss served.acts are now answer.made));
       }
 
-  pub one_opened_of : (p : Tree) → f.plan ≡ p → (calls : List Call) → OpenedBy told faults f calls nodes sources → AreOfPlan p nodes sources → AreOfPlan p ns ss → (c : Call) (reply : Reply) (bytes : List ℕ)
-      → Served p (states_of told faults nodes sources) (states_of told faults ns ss) c [] reply bytes → OpenedBy told faults f (calls ++ c ∷ []) ns ss
+  pub one_opened_of : (p : Tree) → f.plan ≡ p → (calls : List Call) → OpenedBy told faults reads f samples calls nodes sources → AreOfPlan p nodes sources → AreOfPlan p ns ss → (c : Call) (reply : Reply) (bytes : List ℕ)
+      → ServedBy told faults reads p (all_held nodes sources) (all_held ns ss) c [] reply bytes → OpenedBy told faults reads f samples (calls ++ c ∷ []) ns ss
   one_opened_of p is calls by are now c reply bytes served =
       one_opened_more calls by (subst (λ p. AreOfPlan p nodes sources) (sym is) are) (subst (λ p. AreOfPlan p ns ss) (sym is) now) c reply bytes
-      (subst (λ p. Served p (states_of told faults nodes sources) (states_of told faults ns ss) c [] reply bytes) (sym is) served)
+      (subst (λ p. ServedBy told faults reads p (all_held nodes sources) (all_held ns ss) c [] reply bytes) (sym is) served)
 
-  pub none_opened : StandIn told faults f.plan (opened f) nodes sources → OpenedBy told faults f [] nodes sources
-  none_opened stand = record { o = []; calls_are = refl; callers_are = refl; strings_are = refl; legal = tt; stand = stand }
+pub none_opened : {S : Type 0} (told : S → Option (List ℕ)) (faults : S → ℕ) (reads : S → ℕ → Option (List ℕ) → S → Type 0) (f : Opening) (nodes : List NodeView) (sources : List (SourceView S))
+    → StandIn told faults f.plan (opened f) nodes sources → OpenedBy told faults reads f (samples_in sources) [] nodes sources
+none_opened told faults reads f nodes sources stand = record {
+  o = [];
+  calls_are = refl;
+  callers_are = refl;
+  strings_are = refl;
+  legal = tt;
+  stand = stand;
+  made = reads_none reads faults f.plan (samples_in sources);
+}

@@ -4,6 +4,7 @@ pub mod Nexts
 pub mod Single
 pub mod Steps
 pub mod Wholes
+pub mod Made
 pub mod Histories
 pub mod Raising
 pub mod Freshness

@@ -13,14 +13,16 @@ use Rattle.entropy_source.specs.Views.{SourceView, source_state, opened_view}
 use Rattle.rbg_nodes.specs.Node.{fresh_node, kept_seed}
 use Rattle.rbg_nodes.specs.Views.{NodeView}
 use Rattle.tree_rules.specs.Slots.{node_row, source_number, source_row, source_slot}
-use Rattle.tree_rules.specs.History.{Opening, NodeIs, SourceIs, States, opened}
+use Rattle.tree_rules.specs.History.{Opening, NodeIs, SourceIs, States, acts_of, opened}
 use Rattle.tree_rules.specs.Openings.{opening_calls}
 use Rattle.tree_rules.proofs.Parting.{place_of, high}
 use Rattle.tree_acts.specs.Hold.{IsNodeOf, IsSourceOf}
 use Rattle.tree_core.specs.Fresh.{AreFresh, sources_from}
 use Rattle.tree_core.specs.Opened.{OpenedBy}
-use Rattle.tree_core.specs.Solo.{OpensAs, StandIn, seed_in}
+use Rattle.tree_core.specs.Made.{AreReads, samples_in}
+use Rattle.tree_core.specs.Solo.{OpensBy, StandIn, seed_in}
 use Rattle.tree_core.specs.Whole.{AreAtMost, AreOfPlan}
+use Rattle.tree_core.proofs.Made.{samples_given}
 
 -- what stands in states of a plan is of the plan
 pub stand_of_plan : {S : Type 0} (told : S → Option (List ℕ)) (faults : S → ℕ) (p : Tree) (s : States) (nodes : List NodeView) (sources : List (SourceView S))
@@ -103,26 +105,29 @@ module _ {S : Type 0} (told : S → Option (List ℕ)) (faults : S → ℕ) (p :
     gives = λ k v at. (let is = ap (λ (v : NodeView). v.state.gives) (fresh.at k v at) in omega (arith, is));
   }
 
-  pub opens_as : (ns : List NodeView) (ss : List (SourceView S)) → IsPlanned 0 p → IsTree 8 p.nodes → length seeds ≡ length p.nodes
-      → OpenedBy told faults (given told faults p samples seeds) (opening_calls p) ns ss
-      → OpensAs told faults p samples seeds (record { plan = p; nodes = ns; sources = ss; calls = 0 })
-  opens_as ns ss range tree many by = record {
-    f = given told faults p samples seeds;
-    o = by.o;
-    plan_is = refl;
-    given = record { plan_is = refl; seeds_are = refl; told_are = refl; faults_are = refl };
-    is_opening = record {
-      planned = range;
-      tree = tree;
-      seeds = many;
-      long = fresh.long;
-      told = length-map samples told ∙ count;
-      faults = length-map samples faults ∙ count;
-      calls = by.calls_are;
-      callers = by.callers_are;
-      strings = by.strings_are;
-      legal = by.legal;
+  pub opens_by : (reads : S → ℕ → Option (List ℕ) → S → Type 0) (ns : List NodeView) (ss : List (SourceView S)) → IsPlanned 0 p → IsTree 8 p.nodes → length seeds ≡ length p.nodes
+      → OpenedBy told faults reads (given told faults p samples seeds) (samples_in sources) (opening_calls p) ns ss
+      → OpensBy told faults reads p samples seeds (record { plan = p; nodes = ns; sources = ss; calls = 0 })
+  opens_by reads ns ss range tree many by = record {
+    opens = record {
+      f = given told faults p samples seeds;
+      o = by.o;
+      plan_is = refl;
+      given = record { plan_is = refl; seeds_are = refl; told_are = refl; faults_are = refl };
+      is_opening = record {
+        planned = range;
+        tree = tree;
+        seeds = many;
+        long = fresh.long;
+        told = length-map samples told ∙ count;
+        faults = length-map samples faults ∙ count;
+        calls = by.calls_are;
+        callers = by.callers_are;
+        strings = by.strings_are;
+        legal = by.legal;
+      };
+      stand = by.stand;
+      calls = refl;
     };
-    stand = by.stand;
-    calls = refl;
+    made = subst (λ z. AreReads reads faults p z (samples_in ss) (acts_of by.o)) (ap (λ (xs : List (SourceView S)). samples_in xs) are ∙ samples_given p 0 samples) by.made;
   }

@@ -1,4 +1,4 @@
--- Calls whose chain is the one slot that they name, and calls that the table refuses.
+-- Calls whose chain is the one slot that they name, and calls that the table refuses, over what is held.
 use Rattle.std.proofs.Common.{◌≡◌, ◌∷◌, ◌++◌, ◌+◌, ◌<◌, ◌≤◌, ◌^◌, ℕ, List, [], length, map, true, false, refl, sym, ap, subst, arith}
 use Rattle.std.specs.Prelude.{Option, Some, None, IsSome, MatchOption, nat_le, nat_lt}
 use Rattle.std.proofs.lemmas.Bool.Decides.{nat_tests}
@@ -14,27 +14,17 @@ use Rattle.tree_rules.specs.History.{Act, AtNode, States, has, node_in, own, slo
 use Rattle.tree_rules.specs.Chain.{Chain, named, slots_of, source_at}
 use Rattle.tree_rules.specs.Replies.{chain_by, chain_of, chain_rows, first_reply, plain_rows, refusal, there_are}
 use Rattle.tree_rules.specs.Fits.{AnswersBy, Serves, at_source, done, found_by, start_reply, status_bytes}
-use Rattle.tree_rules.specs.Served.{Served, entry_of}
+use Rattle.tree_rules.specs.Served.{entry_of}
 use Rattle.tree_rules.proofs.Leaves.{none_before}
 use Rattle.tree_rules.proofs.Near.{has_first}
 use Rattle.tree_rules.proofs.Sources.{NoneStands, none_stands}
 use Rattle.tree_acts.specs.Hold.{Hold, AreHeld, IsOfPlan, states_held, source_held}
+use Rattle.tree_acts.specs.Did.{Did}
 use Rattle.tree_acts.specs.Drew.{Started, start_end}
+use Rattle.tree_acts.specs.Made.{ServedBy}
+use Rattle.tree_acts.proofs.Doing.{did_none}
 use Rattle.tree_acts.proofs.Rising.{node_there}
 use Rattle.tree_core.proofs.Nexts.{source_held_there}
-
--- a call that the table refuses
-pub refused_served : (p : Tree) (s : States) (c : Call) (string : List ℕ) (r : Reply) → refusal p c string (chain_of p s c string) ≡ Some r → Served p s s c string r []
-refused_served p s c string r is = record {
-  acts = [];
-  fits = λ caller. record { chain_is = refl; answer = by caller (refusal p c string (chain_of p s c string)) is };
-  leaves = λ k. refl;
-} where
-  by : (caller : ℕ) (o : Option Reply) → o ≡ Some r
-      → MatchOption o (Serves (found_by (chain_of p s c string).source) (chain_of p s c string) (entry_of p s c string r [] [] caller) c)
-      (λ reply. AnswersBy (entry_of p s c string r [] [] caller) [] reply [])
-  by caller None e = cc
-  by caller (Some x) e = record { acts_are = refl; reply_is = (let same : x ≡ r = cc in sym same); bytes_are = refl }
 
 module _ (p : Tree) (old : States) (c : Call) (string : List ℕ) (free : refusal p c string (chain_of p old c string) ≡ None) where
   rows_none : first_reply (plain_rows p c string) ≡ None
@@ -52,32 +42,62 @@ module _ (p : Tree) (old : States) (c : Call) (string : List ℕ) (free : refusa
   free_chain : refusal p c string (chain_by p old c None) ≡ None
   free_chain = subst (λ (ch : Chain). refusal p c string ch ≡ None) chain_free free
 
+module _ {S : Type 0} (told : S → Option (List ℕ)) (faults : S → ℕ) (reads : S → ℕ → Option (List ℕ) → S → Type 0) (p : Tree) (h : Hold (SourceView S)) where
+  abbrev before : States
+  before = states_held told faults h
+
+  -- a call that the table refuses
+  pub refused_by : (c : Call) (string : List ℕ) (r : Reply) → refusal p c string (chain_of p before c string) ≡ Some r → ServedBy told faults reads p h h c string r []
+  refused_by c string r is = record {
+    served = record {
+      acts = [];
+      fits = λ caller. record { chain_is = refl; answer = by caller (refusal p c string (chain_of p before c string)) is };
+      leaves = λ k. refl;
+    };
+    made = (did_none told faults p reads h).made;
+  } where
+    by : (caller : ℕ) (o : Option Reply) → o ≡ Some r
+        → MatchOption o (Serves (found_by (chain_of p before c string).source) (chain_of p before c string) (entry_of p before c string r [] [] caller) c)
+        (λ reply. AnswersBy (entry_of p before c string r [] [] caller) [] reply [])
+    by caller None e = cc
+    by caller (Some x) e = record { acts_are = refl; reply_is = (let same : x ≡ r = cc in sym same); bytes_are = refl }
+
   -- what the chain serves is what was served
-  pub served_by : (new : States) (reply : Reply) (bytes : List ℕ) (acts : List Act)
-      → ((caller : ℕ) → Serves (found_by (chain_by p old c None).source) (chain_by p old c None) (entry_of p old c string reply bytes acts caller) c)
-      → ((k : ℕ) → new k ≡ slot_after_all p k (old k) (own k acts)) → Served p old new c string reply bytes
-  served_by new reply bytes acts serves left = record {
-    acts = acts;
-    fits = λ caller.
-        let e = entry_of p old c string reply bytes acts caller in
-        record {
-          chain_is = refl;
-          answer = subst (λ (o : Option Reply). MatchOption o (Serves (found_by (chain_of p old c string).source) (chain_of p old c string) e c) (λ reply. AnswersBy e [] reply [])) (sym free)
-              (subst (λ (ch : Chain). Serves (found_by ch.source) ch e c) (sym chain_free) (serves caller));
-        };
-    leaves = left;
+  served_by : (t : Hold (SourceView S)) (c : Call) (string : List ℕ) (free : refusal p c string (chain_of p before c string) ≡ None) (reply : Reply) (bytes : List ℕ) (acts : List Act)
+      → ((caller : ℕ) → Serves (found_by (chain_by p before c None).source) (chain_by p before c None) (entry_of p before c string reply bytes acts caller) c)
+      → Did told faults reads p h t acts → ServedBy told faults reads p h t c string reply bytes
+  served_by t c string free reply bytes acts serves did = record {
+    served = record {
+      acts = acts;
+      fits = λ caller.
+          let e = entry_of p before c string reply bytes acts caller in
+          record {
+            chain_is = refl;
+            answer = subst (λ (o : Option Reply). MatchOption o (Serves (found_by (chain_of p before c string).source) (chain_of p before c string) e c) (λ reply. AnswersBy e [] reply [])) (sym free)
+                (subst (λ (ch : Chain). Serves (found_by ch.source) ch e c) (sym (chain_free p before c string free)) (serves caller));
+          };
+      leaves = did.states;
+    };
+    made = did.made;
   }
 
-pub clear_served : (p : Tree) (old new : States) (string : List ℕ) (n : ℕ) → refusal p (Uninstantiate n) string (chain_of p old (Uninstantiate n) string) ≡ None
-    → ((k : ℕ) → new k ≡ slot_after_all p k (old k) (own k (record { slot = n; act = AtNode Cleared } ∷ []))) → Served p old new (Uninstantiate n) string (done []) []
-clear_served p old new string n free left =
-    served_by p old (Uninstantiate n) string free new (done []) [] (record { slot = n; act = AtNode Cleared } ∷ [])
-    (λ caller. record { acts_are = refl; reply_is = refl; bytes_are = refl }) left
+  pub clear_served : (t : Hold (SourceView S)) (string : List ℕ) (n : ℕ) → refusal p (Uninstantiate n) string (chain_of p before (Uninstantiate n) string) ≡ None
+      → Did told faults reads p h t (record { slot = n; act = AtNode Cleared } ∷ []) → ServedBy told faults reads p h t (Uninstantiate n) string (done []) []
+  clear_served t string n free did =
+      served_by t (Uninstantiate n) string free (done []) [] (record { slot = n; act = AtNode Cleared } ∷ [])
+      (λ caller. record { acts_are = refl; reply_is = refl; bytes_are = refl }) did
 
-pub status_served : (p : Tree) (s : States) (string bytes : List ℕ) (n : ℕ) → refusal p (Status n) string (chain_of p s (Status n) string) ≡ None
-    → bytes ≡ status_bytes (node_in (s n)) → Served p s s (Status n) string (done (status_bytes (node_in (s n)))) bytes
-status_served p s string bytes n free is =
-    served_by p s (Status n) string free s (done (status_bytes (node_in (s n)))) bytes [] (λ caller. record { acts_are = refl; reply_is = refl; bytes_are = is }) (λ k. refl)
+  pub status_served : (string bytes : List ℕ) (n : ℕ) → refusal p (Status n) string (chain_of p before (Status n) string) ≡ None
+      → bytes ≡ status_bytes (node_in (before n)) → ServedBy told faults reads p h h (Status n) string (done (status_bytes (node_in (before n)))) bytes
+  status_served string bytes n free is =
+      served_by h (Status n) string free (done (status_bytes (node_in (before n)))) bytes [] (λ caller. record { acts_are = refl; reply_is = refl; bytes_are = is })
+      (did_none told faults p reads h)
+
+  pub start_served : (t : Hold (SourceView S)) (j : ℕ) (string : List ℕ) → refusal p (Start j) string (chain_of p before (Start j) string) ≡ None
+      → (r : Option SourceRefusal) → Started told faults reads p h t j r → ServedBy told faults reads p h t (Start j) string (start_reply j (start_end r)) []
+  start_served t j string free r it =
+      served_by t (Start j) string free (start_reply j (start_end r)) [] (map (at_source (source_at p before j)) it.acts)
+      (λ caller. (it.acts, start_end r, it.start, record { acts_are = refl; reply_is = refl; bytes_are = refl })) it.did
 
 module _ {S : Type 0} (told : S → Option (List ℕ)) (faults : S → ℕ) (p : Tree) (h : Hold (SourceView S)) (plan : IsOfPlan p h) where
   abbrev s : States
@@ -101,9 +121,3 @@ module _ {S : Type 0} (told : S → Option (List ℕ)) (faults : S → ℕ) (p :
         none_stands (plain_rows p (Start j) string ++ chain_rows (Start j) (chain_by p s (Start j) None)) (free_chain p s (Start j) string free) in
         let row : nat_lt (2 ^ 60) ((source_in (s (source_slot p j))).taken + (source_row p j).startup) ≡ false = all.1.1.1.1.1.1.1.1.1.0 in
         grind (arith, nat_tests)
-
-    pub start_served : (t : Hold (SourceView S)) (r : Option SourceRefusal) → Started told faults p h t j r
-        → Served p s (states_held told faults t) (Start j) string (start_reply j (start_end r)) []
-    start_served t r it =
-        served_by p s (Start j) string free (states_held told faults t) (start_reply j (start_end r)) [] (map (at_source (source_at p s j)) it.acts)
-        (λ caller. (it.acts, start_end r, it.start, record { acts_are = refl; reply_is = refl; bytes_are = refl })) it.did.states

@@ -1,5 +1,6 @@
 pub mod Names
 pub mod Whole
+pub mod Made
 pub mod AllHeld
 pub mod AllLaws
 pub mod Solo

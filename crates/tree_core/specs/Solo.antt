@@ -7,10 +7,12 @@ use Rattle.rbg_nodes.specs.Views.{NodeView, too_short}
 use Rattle.tree_rules.specs.declared.call.Call.{Call}
 use Rattle.tree_rules.specs.declared.reply.Reply.{Reply}
 use Rattle.tree_rules.specs.Slots.{node_row, source_row, source_slot}
-use Rattle.tree_rules.specs.History.{Entry, Opening, States, NodeIs, SourceIs, opened}
+use Rattle.tree_rules.specs.History.{Entry, Opening, States, NodeIs, SourceIs, acts_of, opened}
 use Rattle.tree_rules.specs.Openings.{IsOpening, IsHistory, states_behind}
+pub use Rattle.tree_rules.specs.Stands.{IsGiven, StandAfter, StandIn}
 use Rattle.tree_rules.specs.Apart.{Apart}
 use Rattle.tree_rules.specs.Quiet.{Quiet}
+use Rattle.tree_core.specs.Made.{AreReads, samples_in}
 use Rattle.tree_core.specs.Reasons.{HasReason}
 use Rattle.tree_core.specs.declared.refusal.OpenRefusal.{OpenRefusal}
 use Rattle.tree_core.specs.declared.refusal.OpenRefusal.TheVariants.{SeedShort, OutOfMemory}
@@ -22,17 +24,6 @@ pub record SoloView (S : Type 0) : Type 0 where
   pub sources : List (SourceView S)
   pub calls : ℕ
 
--- each node and each source is the plan's, and has its state of these
-pub record StandIn {S : Type 0} (told : S → Option (List ℕ)) (faults : S → ℕ) (p : Tree) (s : States) (nodes : List NodeView) (sources : List (SourceView S)) : Type 0 where
-  pub node_count : length nodes ≡ length p.nodes
-  pub source_count : length sources ≡ length p.sources
-  pub nodes_are : (k : ℕ) (v : NodeView) → slice_get nodes k ≡ Some v → (v.row ≡ node_row p k) × (NodeIs v.state ≡ s k)
-  pub sources_are : (j : ℕ) (v : SourceView S) → slice_get sources j ≡ Some v → (v.row ≡ source_row p j) × (SourceIs (source_state told faults v) ≡ s (source_slot p j))
-
--- they stand after these entries behind the opening calls
-abbrev pub StandAfter : {S : Type 0} → (S → Option (List ℕ)) → (S → ℕ) → Opening → List Entry → List Entry → List NodeView → List (SourceView S) → Type 0
-StandAfter told faults f o es nodes sources = StandIn told faults f.plan (states_behind f o es) nodes sources
-
 -- they stand after some legal history of a plan
 pub record HaveHistory {S : Type 0} (told : S → Option (List ℕ)) (faults : S → ℕ) (p : Tree) (nodes : List NodeView) (sources : List (SourceView S)) : Type 0 where
   pub f : Opening
@@ -41,13 +32,6 @@ pub record HaveHistory {S : Type 0} (told : S → Option (List ℕ)) (faults : S
   pub plan_is : f.plan ≡ p
   pub history : IsHistory f o es
   pub stand : StandAfter told faults f o es nodes sources
-
--- what a tree is opened over
-pub record IsGiven {S : Type 0} (told : S → Option (List ℕ)) (faults : S → ℕ) (p : Tree) (samples : List S) (seeds : List (List ℕ)) (f : Opening) : Type 0 where
-  pub plan_is : f.plan ≡ p
-  pub seeds_are : f.seeds ≡ seeds
-  pub told_are : f.told ≡ map told samples
-  pub faults_are : f.faults ≡ map faults samples
 
 -- a tree that was just opened: it stands after its opening calls
 pub record OpensAs {S : Type 0} (told : S → Option (List ℕ)) (faults : S → ℕ) (p : Tree) (samples : List S) (seeds : List (List ℕ)) (t : SoloView S) : Type 0 where
@@ -58,6 +42,12 @@ pub record OpensAs {S : Type 0} (told : S → Option (List ℕ)) (faults : S →
   pub is_opening : IsOpening f o
   pub stand : StandAfter told faults f o [] t.nodes t.sources
   pub calls : t.calls ≡ 0
+
+-- the same, with the reads that its opening calls made
+pub record OpensBy {S : Type 0} (told : S → Option (List ℕ)) (faults : S → ℕ) (reads : S → ℕ → Option (List ℕ) → S → Type 0) (p : Tree) (samples : List S) (seeds : List (List ℕ))
+    (t : SoloView S) : Type 0 where
+  pub opens : OpensAs told faults p samples seeds t
+  pub made : AreReads reads faults p samples (samples_in t.sources) (acts_of opens.o)
 
 -- node k's seed, and that the seeds of the first nodes are long enough
 abbrev pub seed_in : List (List ℕ) → ℕ → List ℕ
@@ -72,10 +62,10 @@ IsCause p seeds (SeedShort node have need) =
     (node < length p.nodes) × (too_short (node_row p node) (seed_in seeds node) ≡ Some (record { have = have; need = need })) × AreLong p seeds node
 IsCause p seeds OutOfMemory = Unit {0}
 
--- a call that was made by caller 1 behind a history: with its entry the history is legal again, uses no sample twice and is quiet after
--- alarms, the reply has its reason, and the tree stands after it
-pub record GoesOn {S : Type 0} (told : S → Option (List ℕ)) (faults : S → ℕ) (f : Opening) (o h : List Entry) (c : Call) (string : List ℕ) (reply : Reply) (bytes : List ℕ)
-    (nodes : List NodeView) (sources : List (SourceView S)) : Type 0 where
+-- a call that was made by caller 1 behind a history, over samples of the sources: with its entry the history is legal again, uses no sample
+-- twice and is quiet after alarms, the reply has its reason, the tree stands after it, and the reads of its entry are those that were made
+pub record GoesOn {S : Type 0} (told : S → Option (List ℕ)) (faults : S → ℕ) (reads : S → ℕ → Option (List ℕ) → S → Type 0) (f : Opening) (o h : List Entry) (samples : List S)
+    (c : Call) (string : List ℕ) (reply : Reply) (bytes : List ℕ) (nodes : List NodeView) (sources : List (SourceView S)) : Type 0 where
   pub entry : Entry
   pub caller_is : entry.caller ≡ 1
   pub call_is : entry.call ≡ c
@@ -87,3 +77,4 @@ pub record GoesOn {S : Type 0} (told : S → Option (List ℕ)) (faults : S → 
   pub quiet : Quiet f.plan (opened f) (o ++ (h ++ entry ∷ []))
   pub reason : HasReason f.plan (states_behind f o h) entry
   pub stand : StandAfter told faults f o (h ++ entry ∷ []) nodes sources
+  pub made : AreReads reads faults f.plan samples (samples_in sources) entry.acts

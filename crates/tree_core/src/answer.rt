@@ -1,9 +1,9 @@
 // One call over a tree of which all is held.
 ghost use Rattle.std.specs.Prelude.{◌≡◌, ◌≤◌, ◌-◌, ◌^◌, ℕ, List, length, take};
-ghost use Rattle.tree_rules.specs.Served.{Served};
+ghost use Rattle.tree_acts.specs.Made.{ServedBy};
 ghost use Rattle.tree_acts.specs.Wiped.{IsWipedBehind};
 ghost use Rattle.tree_core.specs.Raised.{AreRaised};
-ghost use Rattle.tree_core.specs.Whole.{AreOfPlan, AreAtMost, all_held, states_of};
+ghost use Rattle.tree_core.specs.Whole.{AreOfPlan, AreAtMost, all_held};
 
 use crate::all::All;
 use crate::naming::next;
@@ -24,8 +24,9 @@ pub(crate) fn answer<S: Samples>(
     requires plan { AreOfPlan plan.now all.old.nodes.items all.old.sources.items }
     requires few { AreAtMost all.old.nodes.items (2 ^ 62 - 256) }
     requires room { 65536 ≤ length out.old }
-    ensures served { Served plan.now (states_of S.told S.faults all.old.nodes.items all.old.sources.items)
-        (states_of S.told S.faults all.new.nodes.items all.new.sources.items) call.now input.now result (take result.len out.new) }
+    ensures served { ServedBy S.told S.faults S.reads plan.now (all_held all.old.nodes.items all.old.sources.items)
+        (all_held all.new.nodes.items all.new.sources.items) call.now input.now result (take result.len out.new) }
+    ensures within { result.len ≤ 65536 }
     ensures plan { AreOfPlan plan.now all.new.nodes.items all.new.sources.items }
     ensures raised { AreRaised (all_held all.old.nodes.items all.old.sources.items) (all_held all.new.nodes.items all.new.sources.items) }
     ensures behind { IsWipedBehind result.len out.old out.new }

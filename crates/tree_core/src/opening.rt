@@ -2,6 +2,7 @@
 ghost use Rattle.std.specs.Prelude.{◌≡◌, ◌≤◌, ◌<◌, ◌^◌, ◌+◌, ◌++◌, ℕ, List, length, IfOk, IfErr};
 ghost use Rattle.tree_rules.specs.History.{Opening, opened};
 ghost use Rattle.tree_rules.specs.Openings.{opening_calls};
+ghost use Rattle.tree_core.specs.Made.{samples_in};
 ghost use Rattle.tree_core.specs.Opened.{OpenedBy, calls_at, one_at, start_calls};
 ghost use Rattle.tree_core.specs.Solo.{StandIn};
 ghost use Rattle.tree_core.specs.Whole.{AreAtMost, AreOfPlan};
@@ -75,7 +76,7 @@ fn make<S: Samples>(plan: &TreePlan, all: &mut All<S>, calls: &[Call], out: &mut
     requires few { length calls.now ≤ 4096 }
     requires room { 65536 ≤ length out.old }
     ensures opened { (f : Opening) → f.plan ≡ plan.now → StandIn S.told S.faults f.plan (opened f) all.old.nodes.items all.old.sources.items →
-        OpenedBy S.told S.faults f calls.now all.new.nodes.items all.new.sources.items }
+        OpenedBy S.told S.faults S.reads f (samples_in all.old.sources.items) calls.now all.new.nodes.items all.new.sources.items }
     ensures plan { AreOfPlan plan.now all.new.nodes.items all.new.sources.items }
     ensures few { AreAtMost all.new.nodes.items (2 ^ 61) }
 {
@@ -94,7 +95,7 @@ pub(crate) fn open_all<S: Samples>(
     requires plan { AreOfPlan plan.now all.nodes.items all.sources.items }
     requires fresh { AreAtMost all.nodes.items 0 }
     ensures opened { IfOk result (λ t. (f : Opening) → f.plan ≡ plan.now → StandIn S.told S.faults f.plan (opened f) all.nodes.items all.sources.items →
-        OpenedBy S.told S.faults f (opening_calls plan.now) t.nodes.items t.sources.items) }
+        OpenedBy S.told S.faults S.reads f (samples_in all.sources.items) (opening_calls plan.now) t.nodes.items t.sources.items) }
     ensures plan { IfOk result (λ t. AreOfPlan plan.now t.nodes.items t.sources.items) }
     ensures few { IfOk result (λ t. AreAtMost t.nodes.items (2 ^ 61)) }
     ensures refused { IfErr result (λ why. why ≡ OpenRefusal.OutOfMemory) }

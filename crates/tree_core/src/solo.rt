@@ -1,12 +1,13 @@
 // The tree that one caller uses.
-ghost use Rattle.std.specs.Prelude.{◌≡◌, ◌≤◌, ◌<◌, ◌+◌, ◌^◌, ℕ, List, map, length, take, slice_get, MatchResult, IfSome};
+ghost use Rattle.std.specs.Prelude.{◌≡◌, ◌≤◌, ◌<◌, ◌+◌, ◌^◌, ℕ, List, map, length, take, slice_get, MatchResult, IfOk, IfSome};
 ghost use Rattle.rbg_nodes.specs.Views.{counts_of};
 ghost use Rattle.tree_rules.specs.History.{Entry, Opening};
 ghost use Rattle.tree_rules.specs.Openings.{IsHistory};
 ghost use Rattle.tree_rules.specs.Served.{Served};
 ghost use Rattle.tree_acts.specs.Wiped.{IsWipedBehind};
 ghost use Rattle.tree_core.specs.Whole.{AreAtMost, states_of};
-ghost use Rattle.tree_core.specs.Solo.{StandAfter, HaveHistory, OpensAs, IsCause, GoesOn};
+ghost use Rattle.tree_core.specs.Made.{AnsweredBy, samples_in};
+ghost use Rattle.tree_core.specs.Solo.{StandAfter, HaveHistory, OpensAs, OpensBy, IsCause, GoesOn};
 
 use crate::all::All;
 use crate::answer::answer;
@@ -71,9 +72,10 @@ impl<S: Samples> SoloTree<S> {
     ) -> Result<SoloTree<S>, OpenRefusal>
         requires sources { length sources.items ≡ length plan.sources }
         requires seeds { length seeds.items ≡ length plan.nodes }
-        ensures { MatchResult result
+        ensures opened { MatchResult result
             (λ t. OpensAs S.told S.faults plan sources.items (map (λ s. s.items) seeds.items) t)
             (λ why. IsCause plan (map (λ s. s.items) seeds.items) why) }
+        ensures made { IfOk result (λ t. OpensBy S.told S.faults S.reads plan sources.items (map (λ s. s.items) seeds.items) t) }
     {
         let _tree = plan.nodes();
         let nodes = match nodes_of(alloc, &plan, &seeds) {
@@ -104,7 +106,11 @@ impl<S: Samples> SoloTree<S> {
             call.now input.now result (take result.len out.new) }
         ensures history { (f : Opening) (o h : List Entry) → IsHistory f o h → f.plan ≡ self.old.plan →
             StandAfter S.told S.faults f o h self.old.nodes self.old.sources →
-            GoesOn S.told S.faults f o h call.now input.now result (take result.len out.new) self.new.nodes self.new.sources }
+            GoesOn S.told S.faults S.reads f o h (samples_in self.old.sources) call.now input.now result (take result.len out.new)
+            self.new.nodes self.new.sources }
+        ensures made { AnsweredBy S.told S.faults S.reads self.old.plan self.old.nodes self.new.nodes self.old.sources self.new.sources
+            call.now input.now result (take result.len out.new) }
+        ensures within { result.len ≤ 65536 }
         ensures plan { self.new.plan ≡ self.old.plan }
         ensures calls { self.new.calls ≡ self.old.calls + 1 }
         ensures behind { IsWipedBehind result.len out.old out.new }

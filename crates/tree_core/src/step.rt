@@ -4,6 +4,7 @@ use tree_rules::Reply;
 
 /// The next step of a call: to take the slot that it needs first of those that it doesn't hold, or, holding all that it needs, to be
 /// refused before any sample is read, or to be worked.
+#[derive(Clone, Copy, Debug, PartialEq, Eq)]
 pub enum Next {
     Take(u16),
     Refuse(Reply),

@@ -9,6 +9,7 @@ ghost use Rattle.tree_rules.specs.Fits.{status_bytes};
 ghost use Rattle.tree_rules.specs.Served.{Served};
 ghost use Rattle.tree_acts.specs.Hold.{IsOfPlan, AreHeld, FewCounts, states_held};
 ghost use Rattle.tree_acts.specs.Kept.{SameRows};
+ghost use Rattle.tree_acts.specs.Made.{ServedBy};
 ghost use Rattle.tree_acts.specs.Wiped.{IsWipedBehind};
 ghost use Rattle.tree_core.specs.Raised.{AreRaised};
 
@@ -42,7 +43,7 @@ fn start_work<S: Samples, H: Holdings<EntropySource<S>>>(
     requires plan { IsOfPlan plan.now (H.what hold.old) }
     requires held { AreHeld (H.what hold.old) (slots_of (chain_of plan.now (states_held S.told S.faults (H.what hold.old)) (Start j) input.now)) }
     requires free { refusal plan.now (Start j) input.now (chain_of plan.now (states_held S.told S.faults (H.what hold.old)) (Start j) input.now) ≡ None }
-    ensures served { Served plan.now (states_held S.told S.faults (H.what hold.old)) (states_held S.told S.faults (H.what hold.new)) (Start j) input.now result [] }
+    ensures served { ServedBy S.told S.faults S.reads plan.now (H.what hold.old) (H.what hold.new) (Start j) input.now result [] }
     ensures rows { SameRows (H.what hold.old) (H.what hold.new) }
     ensures len { result.len ≡ 0 }
 {
@@ -64,7 +65,7 @@ fn clear_work<S: Samples, H: Holdings<EntropySource<S>>>(
     requires plan { IsOfPlan plan.now (H.what hold.old) }
     requires held { AreHeld (H.what hold.old) (slots_of (chain_of plan.now (states_held S.told S.faults (H.what hold.old)) (Uninstantiate n) input.now)) }
     requires free { refusal plan.now (Uninstantiate n) input.now (chain_of plan.now (states_held S.told S.faults (H.what hold.old)) (Uninstantiate n) input.now) ≡ None }
-    ensures served { Served plan.now (states_held S.told S.faults (H.what hold.old)) (states_held S.told S.faults (H.what hold.new)) (Uninstantiate n) input.now result [] }
+    ensures served { ServedBy S.told S.faults S.reads plan.now (H.what hold.old) (H.what hold.new) (Uninstantiate n) input.now result [] }
     ensures rows { SameRows (H.what hold.old) (H.what hold.new) }
     ensures len { result.len ≡ 0 }
 {
@@ -100,8 +101,8 @@ fn status_work<S: Samples, H: Holdings<EntropySource<S>>>(
     requires held { AreHeld (H.what hold.now) (slots_of (chain_of plan.now (states_held S.told S.faults (H.what hold.now)) (Status n) input.now)) }
     requires free { refusal plan.now (Status n) input.now (chain_of plan.now (states_held S.told S.faults (H.what hold.now)) (Status n) input.now) ≡ None }
     requires room { 65536 ≤ length out.old }
-    ensures served { Served plan.now (states_held S.told S.faults (H.what hold.now)) (states_held S.told S.faults (H.what hold.now)) (Status n) input.now
-        result (take result.len out.new) }
+    ensures served { ServedBy S.told S.faults S.reads plan.now (H.what hold.now) (H.what hold.now) (Status n) input.now result (take result.len out.new) }
+    ensures len { result.len ≡ 25 }
     ensures behind { IsWipedBehind result.len out.old out.new }
 {
     let _input = input;
@@ -127,6 +128,8 @@ pub fn work<S: Samples, H: Holdings<EntropySource<S>>>(
     requires room { 65536 ≤ length out.old }
     ensures served { Served plan.now (states_held S.told S.faults (H.what hold.old)) (states_held S.told S.faults (H.what hold.new)) call.now input.now
         result (take result.len out.new) }
+    ensures made { ServedBy S.told S.faults S.reads plan.now (H.what hold.old) (H.what hold.new) call.now input.now result (take result.len out.new) }
+    ensures within { result.len ≤ 65536 }
     ensures rows { SameRows (H.what hold.old) (H.what hold.new) }
     ensures counts { AreRaised (H.what hold.old) (H.what hold.new) }
     ensures behind { IsWipedBehind result.len out.old out.new }

@@ -5,7 +5,7 @@ use Rattle.tree_config.specs.Tree.{Tree}
 use Rattle.entropy_source.specs.Views.{SourceView, source_state}
 use Rattle.rbg_nodes.specs.Views.{NodeView}
 use Rattle.tree_rules.specs.Slots.{node_row, source_row, source_slot}
-use Rattle.tree_rules.specs.History.{Entry, Opening, SlotState, NodeIs, SourceIs}
+use Rattle.tree_rules.specs.History.{Entry, Opening, SlotState, States, NodeIs, SourceIs}
 use Rattle.tree_rules.specs.Openings.{IsOpening, states_behind}
 use Rattle.tree_rules.specs.Table.{Tells}
 
@@ -51,14 +51,16 @@ pub record IsGiven {S : Type 0} (told : S → Option (List ℕ)) (faults : S →
   pub told_are : f.told ≡ map told samples
   pub faults_are : f.faults ≡ map faults samples
 
--- each node and each source is the plan's, and in its state after the opening calls and these entries
-pub record StandAfter {S : Type 0} (told : S → Option (List ℕ)) (faults : S → ℕ) (f : Opening) (o h : List Entry)
-    (nodes : List NodeView) (sources : List (SourceView S)) : Type 0 where
-  pub node_count : length nodes ≡ length f.plan.nodes
-  pub source_count : length sources ≡ length f.plan.sources
-  pub nodes_are : (k : ℕ) (v : NodeView) → slice_get nodes k ≡ Some v → (v.row ≡ node_row f.plan k) × (NodeIs v.state ≡ states_behind f o h k)
-  pub sources_are : (j : ℕ) (v : SourceView S) → slice_get sources j ≡ Some v
-      → (v.row ≡ source_row f.plan j) × (SourceIs (source_state told faults v) ≡ states_behind f o h (source_slot f.plan j))
+-- each node and each source is the plan's, and has its state of these
+pub record StandIn {S : Type 0} (told : S → Option (List ℕ)) (faults : S → ℕ) (p : Tree) (s : States) (nodes : List NodeView) (sources : List (SourceView S)) : Type 0 where
+  pub node_count : length nodes ≡ length p.nodes
+  pub source_count : length sources ≡ length p.sources
+  pub nodes_are : (k : ℕ) (v : NodeView) → slice_get nodes k ≡ Some v → (v.row ≡ node_row p k) × (NodeIs v.state ≡ s k)
+  pub sources_are : (j : ℕ) (v : SourceView S) → slice_get sources j ≡ Some v → (v.row ≡ source_row p j) × (SourceIs (source_state told faults v) ≡ s (source_slot p j))
+
+-- they stand after these entries behind the opening calls
+abbrev pub StandAfter : {S : Type 0} → (S → Option (List ℕ)) → (S → ℕ) → Opening → List Entry → List Entry → List NodeView → List (SourceView S) → Type 0
+StandAfter told faults f o h nodes sources = StandIn told faults f.plan (states_behind f o h) nodes sources
 
 -- a tree in parts, as it was opened over a plan, samples and seeds
 pub record OpensAs {S : Type 0} (told : S → Option (List ℕ)) (faults : S → ℕ) (p : Tree) (samples : List S) (seeds : List (List ℕ))

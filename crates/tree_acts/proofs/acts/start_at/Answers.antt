@@ -1,6 +1,4 @@
-use Rattle.std.proofs.Common.{rules, ◌≡◌, ◌+◌, ◌∙◌, ap, length}
-use Rattle.std.specs.Prelude.{Option, Result}
-use Rattle.entropy_source.specs.declared.answers.SourceRefusal.{SourceRefusal}
+use Rattle.std.proofs.Common.{rules, ◌≡◌, ◌+◌, ap}
 use Rattle.entropy_source.specs.Views.{without_bytes}
 use Rattle.tree_rules.specs.Slots.{source_slot}
 use Rattle.tree_acts.proofs.Starting.{started_at}

@@ -34,7 +34,7 @@ returns-in_default g t c =
       | inl e ↦ inl e
       | inr e ↦ inr (step_asks told faults p c.args.pr task (states_held told faults h n) n step.slot (link_of step o) c.step_at-step.ensures.slot (c.step_at-step.ensures.link o) false e)
     ] in
-    worked_only told faults p h (g.H.Holdings.what c.end_work.new.hold) c.args.pr task c.args.far n c.args.string.now c.end_work.result c.end_work.new.out ends c.end_work.ensures
+    worked_only told faults p g.S.Samples.reads h (g.H.Holdings.what c.end_work.new.hold) c.args.pr task c.args.far n c.args.string.now c.end_work.result c.end_work.new.out ends c.end_work.ensures
 
 pub climb-refused-requires : goal.climb-refused-requires
 climb-refused-requires g t c = λ κs lives.
@@ -82,8 +82,8 @@ returns-then-is_some g t c =
     let len : c.seeding_len-len.result ≡ seeding_len l = c.seeding_len-len.ensures.len o ∙ ap (λ (l : Link). seeding_len l) (c.step_at-step.ensures.link o) in
     let t1 = g.H.Holdings.what c.climb-refused.new.hold in
     let given = c.climb-refused.new.out in
-    let w = subst (λ k. Worked told faults p h t1 pr [] (links_from p s pr (Gives k) (c.args.far - 1) q) (source_of p s pr (last_link (links_from p s pr (Gives k) (c.args.far - 1) q))) c.climb-refused.result given) len c.climb-refused.ensures in
-    refused_some told faults p h t1 pr task c.args.far n q c.climb-refused.result c.args.string.now given c.args.out.now more asks parent (search rules) w
+    let w = subst (λ k. Worked told faults g.S.Samples.reads p h t1 pr [] (links_from p s pr (Gives k) (c.args.far - 1) q) (source_of p s pr (last_link (links_from p s pr (Gives k) (c.args.far - 1) q))) c.climb-refused.result given) len c.climb-refused.ensures in
+    refused_some told faults p g.S.Samples.reads h t1 pr task c.args.far n q c.climb-refused.result c.args.string.now given c.args.out.now more asks parent (search rules) w
 
 pub part_at-requires-clause-plan : goal.part_at-requires-clause-plan
 part_at-requires-clause-plan g t c =
@@ -97,8 +97,8 @@ part_at-requires-clause-plan g t c =
     let len : c.seeding_len-len.result ≡ seeding_len l = c.seeding_len-len.ensures.len o ∙ ap (λ (l : Link). seeding_len l) (c.step_at-step.ensures.link o) in
     let t1 = g.H.Holdings.what c.climb-refused.new.hold in
     let given = c.climb-refused.new.out in
-    let w = subst (λ k. Worked told faults p h t1 pr [] (links_from p s pr (Gives k) (c.args.far - 1) q) (source_of p s pr (last_link (links_from p s pr (Gives k) (c.args.far - 1) q))) c.climb-refused.result given) len c.climb-refused.ensures in
-    plan_still told faults p h t1 w.acts w.did c.requires.plan
+    let w = subst (λ k. Worked told faults g.S.Samples.reads p h t1 pr [] (links_from p s pr (Gives k) (c.args.far - 1) q) (source_of p s pr (last_link (links_from p s pr (Gives k) (c.args.far - 1) q))) c.climb-refused.result given) len c.climb-refused.ensures in
+    plan_still told faults p g.S.Samples.reads h t1 w.acts w.did c.requires.plan
 
 pub part_at-requires-clause-alive : goal.part_at-requires-clause-alive
 part_at-requires-clause-alive g t c =
@@ -112,9 +112,9 @@ part_at-requires-clause-alive g t c =
     let len : c.seeding_len-len.result ≡ seeding_len l = c.seeding_len-len.ensures.len o ∙ ap (λ (l : Link). seeding_len l) (c.step_at-step.ensures.link o) in
     let t1 = g.H.Holdings.what c.climb-refused.new.hold in
     let given = c.climb-refused.new.out in
-    let w = subst (λ k. Worked told faults p h t1 pr [] (links_from p s pr (Gives k) (c.args.far - 1) q) (source_of p s pr (last_link (links_from p s pr (Gives k) (c.args.far - 1) q))) c.climb-refused.result given) len c.climb-refused.ensures in
+    let w = subst (λ k. Worked told faults g.S.Samples.reads p h t1 pr [] (links_from p s pr (Gives k) (c.args.far - 1) q) (source_of p s pr (last_link (links_from p s pr (Gives k) (c.args.far - 1) q))) c.climb-refused.result given) len c.climb-refused.ensures in
     let whole = subst (λ ls. Ready told faults p h pr task n ls (length c.args.string.now) (length c.args.out.now) (length c.args.spare.now)) (links_step p s pr task c.args.far n q more asks parent) c.requires in
-    ap (λ (x : SlotState). (node_in x).live) (state_still told faults p h t1 pr (Gives (seeding_len l)) (c.args.far - 1) n q c.climb-refused.result given c.requires.tree c.requires.planned parent w)
+    ap (λ (x : SlotState). (node_in x).live) (state_still told faults p g.S.Samples.reads h t1 pr (Gives (seeding_len l)) (c.args.far - 1) n q c.climb-refused.result given c.requires.tree c.requires.planned parent w)
     ∙ alive_is told faults p pr l (asks_seed told faults p pr l asks).0 whole.able.dead
 
 pub part_at-requires-clause-seeds : goal.part_at-requires-clause-seeds
@@ -129,8 +129,8 @@ part_at-requires-clause-seeds g t c =
     let len : c.seeding_len-len.result ≡ seeding_len l = c.seeding_len-len.ensures.len o ∙ ap (λ (l : Link). seeding_len l) (c.step_at-step.ensures.link o) in
     let t1 = g.H.Holdings.what c.climb-refused.new.hold in
     let given = c.climb-refused.new.out in
-    let w = subst (λ k. Worked told faults p h t1 pr [] (links_from p s pr (Gives k) (c.args.far - 1) q) (source_of p s pr (last_link (links_from p s pr (Gives k) (c.args.far - 1) q))) c.climb-refused.result given) len c.climb-refused.ensures in
-    let still = state_still told faults p h t1 pr (Gives (seeding_len l)) (c.args.far - 1) n q c.climb-refused.result given c.requires.tree c.requires.planned parent w in
+    let w = subst (λ k. Worked told faults g.S.Samples.reads p h t1 pr [] (links_from p s pr (Gives k) (c.args.far - 1) q) (source_of p s pr (last_link (links_from p s pr (Gives k) (c.args.far - 1) q))) c.climb-refused.result given) len c.climb-refused.ensures in
+    let still = state_still told faults p g.S.Samples.reads h t1 pr (Gives (seeding_len l)) (c.args.far - 1) n q c.climb-refused.result given c.requires.tree c.requires.planned parent w in
     let few = (few_at told faults p h n c.requires.counts (first_there told faults p h pr task c.args.far n c.requires.plan c.requires.planned c.requires.held)).0 in
     let same = ap (λ (x : SlotState). (node_in x).seeds) still in
     omega (arith, few, same)
@@ -147,8 +147,8 @@ part_at-requires-clause-gives g t c =
     let len : c.seeding_len-len.result ≡ seeding_len l = c.seeding_len-len.ensures.len o ∙ ap (λ (l : Link). seeding_len l) (c.step_at-step.ensures.link o) in
     let t1 = g.H.Holdings.what c.climb-refused.new.hold in
     let given = c.climb-refused.new.out in
-    let w = subst (λ k. Worked told faults p h t1 pr [] (links_from p s pr (Gives k) (c.args.far - 1) q) (source_of p s pr (last_link (links_from p s pr (Gives k) (c.args.far - 1) q))) c.climb-refused.result given) len c.climb-refused.ensures in
-    let still = state_still told faults p h t1 pr (Gives (seeding_len l)) (c.args.far - 1) n q c.climb-refused.result given c.requires.tree c.requires.planned parent w in
+    let w = subst (λ k. Worked told faults g.S.Samples.reads p h t1 pr [] (links_from p s pr (Gives k) (c.args.far - 1) q) (source_of p s pr (last_link (links_from p s pr (Gives k) (c.args.far - 1) q))) c.climb-refused.result given) len c.climb-refused.ensures in
+    let still = state_still told faults p g.S.Samples.reads h t1 pr (Gives (seeding_len l)) (c.args.far - 1) n q c.climb-refused.result given c.requires.tree c.requires.planned parent w in
     let few = (few_at told faults p h n c.requires.counts (first_there told faults p h pr task c.args.far n c.requires.plan c.requires.planned c.requires.held)).1 in
     let same = ap (λ (x : SlotState). (node_in x).gives) still in
     omega (arith, few, same)
@@ -165,8 +165,8 @@ part_at-requires-clause-material g t c =
     let len : c.seeding_len-len.result ≡ seeding_len l = c.seeding_len-len.ensures.len o ∙ ap (λ (l : Link). seeding_len l) (c.step_at-step.ensures.link o) in
     let t1 = g.H.Holdings.what c.climb-refused.new.hold in
     let given = c.climb-refused.new.out in
-    let w = subst (λ k. Worked told faults p h t1 pr [] (links_from p s pr (Gives k) (c.args.far - 1) q) (source_of p s pr (last_link (links_from p s pr (Gives k) (c.args.far - 1) q))) c.climb-refused.result given) len c.climb-refused.ensures in
-    let still = state_still told faults p h t1 pr (Gives (seeding_len l)) (c.args.far - 1) n q c.climb-refused.result given c.requires.tree c.requires.planned parent w in
+    let w = subst (λ k. Worked told faults g.S.Samples.reads p h t1 pr [] (links_from p s pr (Gives k) (c.args.far - 1) q) (source_of p s pr (last_link (links_from p s pr (Gives k) (c.args.far - 1) q))) c.climb-refused.result given) len c.climb-refused.ensures in
+    let still = state_still told faults p g.S.Samples.reads h t1 pr (Gives (seeding_len l)) (c.args.far - 1) n q c.climb-refused.result given c.requires.tree c.requires.planned parent w in
     let e : length given ≡ c.seeding_len-len.result = search rules in
     e ∙ len
 
@@ -182,8 +182,8 @@ returns g t c =
     let len : c.seeding_len-len.result ≡ seeding_len l = c.seeding_len-len.ensures.len o ∙ ap (λ (l : Link). seeding_len l) (c.step_at-step.ensures.link o) in
     let t1 = g.H.Holdings.what c.climb-refused.new.hold in
     let given = c.climb-refused.new.out in
-    let w = subst (λ k. Worked told faults p h t1 pr [] (links_from p s pr (Gives k) (c.args.far - 1) q) (source_of p s pr (last_link (links_from p s pr (Gives k) (c.args.far - 1) q))) c.climb-refused.result given) len c.climb-refused.ensures in
+    let w = subst (λ k. Worked told faults g.S.Samples.reads p h t1 pr [] (links_from p s pr (Gives k) (c.args.far - 1) q) (source_of p s pr (last_link (links_from p s pr (Gives k) (c.args.far - 1) q))) c.climb-refused.result given) len c.climb-refused.ensures in
     let none = none_of told faults p c.climb-refused.result (search rules) in
-    let w' = subst (λ (r : Option Reply). Worked told faults p h t1 pr [] (links_from p s pr (Gives (seeding_len l)) (c.args.far - 1) q) (source_of p s pr (last_link (links_from p s pr (Gives (seeding_len l)) (c.args.far - 1) q))) r given) none w in
-    risen told faults p h t1 (g.H.Holdings.what c.part_at.new.hold) pr task c.args.far n q c.args.string.now given c.part_at.new.out more c.requires.range c.requires.tree c.requires.planned asks parent w'
+    let w' = subst (λ (r : Option Reply). Worked told faults g.S.Samples.reads p h t1 pr [] (links_from p s pr (Gives (seeding_len l)) (c.args.far - 1) q) (source_of p s pr (last_link (links_from p s pr (Gives (seeding_len l)) (c.args.far - 1) q))) r given) none w in
+    risen told faults p g.S.Samples.reads h t1 (g.H.Holdings.what c.part_at.new.hold) pr task c.args.far n q c.args.string.now given c.part_at.new.out more c.requires.range c.requires.tree c.requires.planned asks parent w'
     c.part_at.ensures.did c.part_at.ensures.bytes

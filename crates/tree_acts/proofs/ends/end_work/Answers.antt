@@ -34,7 +34,7 @@ returns-in-None g c =
     let s = states_held told faults h in let pr = c.args.pr in let task = task_in c.args.asked in let n = c.args.n in let l = link p n task (s n) in
     let step = c.step_at-step.result in let o = (node_plan p step.slot).origin in
     let draws = c.source_of.ensures.number ∙ step_draws told faults p pr task (s n) n step.slot (link_of step o) c.step_at-step.ensures.slot (c.step_at-step.ensures.link o) in
-    worked_own told faults p h (g.H.Holdings.what c.own_work.new.hold) pr c.args.string.now c.own_work.new.out l (source_none told faults p s pr l c.source_of.result draws c.in-None.is)
+    worked_own told faults p g.S.Samples.reads h (g.H.Holdings.what c.own_work.new.hold) pr c.args.string.now c.own_work.new.out l (source_none told faults p s pr l c.source_of.result draws c.in-None.is)
     c.own_work.ensures.did c.own_work.ensures.bytes
 
 pub returns-in-None-source_work : goal.returns-in-None-source_work
@@ -45,8 +45,8 @@ returns-in-None-source_work g c =
     let draws = c.source_of.ensures.number ∙ step_draws told faults p pr task (s n) n step.slot (link_of step o) c.step_at-step.ensures.slot (c.step_at-step.ensures.link o) in
     let on = source_some told faults p s pr l c.source_of.result c.in-Some.j draws c.in-Some.is in
     let u = g.H.Holdings.what c.source_work.new.hold in
-    let w = worked_source told faults p h u pr c.args.string.now c.source_work.new.out l c.in-Some.j c.source_work.result on c.source_work.ensures in
-    subst (λ (r : Option Reply). Worked told faults p h u pr c.args.string.now (l ∷ []) (source_of p s pr l) r c.source_work.new.out)
+    let w = worked_source told faults p g.S.Samples.reads h u pr c.args.string.now c.source_work.new.out l c.in-Some.j c.source_work.result on c.source_work.ensures in
+    subst (λ (r : Option Reply). Worked told faults g.S.Samples.reads p h u pr c.args.string.now (l ∷ []) (source_of p s pr l) r c.source_work.new.out)
     (ap (λ (r : Option SourceRefusal). option_map (λ why. source_reply c.in-Some.j why) r) c.in-None-source_work.is) w
 
 pub returns-in-Some-source_work : goal.returns-in-Some-source_work
@@ -57,6 +57,6 @@ returns-in-Some-source_work g c =
     let draws = c.source_of.ensures.number ∙ step_draws told faults p pr task (s n) n step.slot (link_of step o) c.step_at-step.ensures.slot (c.step_at-step.ensures.link o) in
     let on = source_some told faults p s pr l c.source_of.result c.in-Some.j draws c.in-Some.is in
     let u = g.H.Holdings.what c.source_work.new.hold in
-    let w = worked_source told faults p h u pr c.args.string.now c.source_work.new.out l c.in-Some.j c.source_work.result on c.source_work.ensures in
-    subst (λ (r : Option Reply). Worked told faults p h u pr c.args.string.now (l ∷ []) (source_of p s pr l) r c.source_work.new.out)
+    let w = worked_source told faults p g.S.Samples.reads h u pr c.args.string.now c.source_work.new.out l c.in-Some.j c.source_work.result on c.source_work.ensures in
+    subst (λ (r : Option Reply). Worked told faults g.S.Samples.reads p h u pr c.args.string.now (l ∷ []) (source_of p s pr l) r c.source_work.new.out)
     (ap (λ (r : Option SourceRefusal). option_map (λ why. source_reply c.in-Some.j why) r) c.in-Some-source_work.is ∙ ap (λ (r : Reply). Some r) (sym c.source_reply.ensures)) w

@@ -44,7 +44,7 @@ returns-in-Instantiate g c =
     let file = own_file p s pr n task (s n) r.range r.planned r.able.alive must r.able.whole c.requires.none in
     let work = own_new p s pr n task (s n) c.args.string.now file.1.0 is file.1.1 in
     record {
-      did = subst (λ (w : Work). Did told faults p h (g.H.Holdings.what c.seed_own_at.new.hold) w.acts) (sym work) c.seed_own_at.ensures;
+      did = subst (λ (w : Work). Did told faults g.S.Samples.reads p h (g.H.Holdings.what c.seed_own_at.new.hold) w.acts) (sym work) c.seed_own_at.ensures;
       bytes = no_items c.args.out.now (r.asks ∙ ap (λ (t : Task). len_of t) is) ∙ ap (λ (w : Work). w.bytes) (sym work);
     }
 
@@ -62,7 +62,7 @@ returns-in-Give g c =
     let gave = subst (λ k. out ≡ given_bytes (node_row p n) (node_held told faults h n) c.args.string.now k) size c.give_at.ensures.bytes in
     let both = own_gives p s pr n task (s n) r.range r.planned len c.args.string.now out is r.able.alive must c.requires.none size' gave in
     record {
-      did = subst (λ (acts : List Act). Did told faults p h (g.H.Holdings.what c.give_at.new.hold) acts) (ap (λ k. record { slot = n; act = AtNode (Gave c.args.string.now k out) } ∷ []) size ∙ sym both.0) c.give_at.ensures.did;
+      did = subst (λ (acts : List Act). Did told faults g.S.Samples.reads p h (g.H.Holdings.what c.give_at.new.hold) acts) (ap (λ k. record { slot = n; act = AtNode (Gave c.args.string.now k out) } ∷ []) size ∙ sym both.0) c.give_at.ensures.did;
       bytes = both.1;
     }
 

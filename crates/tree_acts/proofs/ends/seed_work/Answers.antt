@@ -51,9 +51,9 @@ returns-then-is_some g c =
     let d = c.draw_at-refused.new.out in
     let size : length d ≡ c.seeding_len-len.result = search rules in
     let lens : length d ∷ [] ≡ wanted pr l = ap (λ k. k ∷ []) (size ∙ len) ∙ sym c.requires.alone.wants in
-    let drew = subst (λ z. Drew told faults p h t1 j z c.draw_at-refused.result (d ∷ [])) lens (subst (λ k. Drew told faults p h t1 j (k ∷ []) c.draw_at-refused.result (d ∷ [])) (search rules) c.draw_at-refused.ensures) in
-    let still = drew_still told faults p h t1 j n (wanted pr l) c.draw_at-refused.result (d ∷ []) c.requires.ready.planned drew in
-    sw_refused told faults p h t1 pr c.args.string.now c.args.out.now l j c.draw_at-refused.result (d ∷ []) (search rules) drew
+    let drew = subst (λ z. Drew told faults g.S.Samples.reads p h t1 j z c.draw_at-refused.result (d ∷ [])) lens (subst (λ k. Drew told faults g.S.Samples.reads p h t1 j (k ∷ []) c.draw_at-refused.result (d ∷ [])) (search rules) c.draw_at-refused.ensures) in
+    let still = drew_still told faults p g.S.Samples.reads h t1 j n (wanted pr l) c.draw_at-refused.result (d ∷ []) c.requires.ready.planned drew in
+    sw_refused told faults p g.S.Samples.reads h t1 pr c.args.string.now c.args.out.now l j c.draw_at-refused.result (d ∷ []) (search rules) drew
 
 pub part_at-requires-clause-plan : goal.part_at-requires-clause-plan
 part_at-requires-clause-plan g c =
@@ -66,9 +66,9 @@ part_at-requires-clause-plan g c =
     let d = c.draw_at-refused.new.out in
     let size : length d ≡ c.seeding_len-len.result = search rules in
     let lens : length d ∷ [] ≡ wanted pr l = ap (λ k. k ∷ []) (size ∙ len) ∙ sym c.requires.alone.wants in
-    let drew = subst (λ z. Drew told faults p h t1 j z c.draw_at-refused.result (d ∷ [])) lens (subst (λ k. Drew told faults p h t1 j (k ∷ []) c.draw_at-refused.result (d ∷ [])) (search rules) c.draw_at-refused.ensures) in
-    let still = drew_still told faults p h t1 j n (wanted pr l) c.draw_at-refused.result (d ∷ []) c.requires.ready.planned drew in
-    plan_still told faults p h t1 _ drew.did c.requires.ready.plan
+    let drew = subst (λ z. Drew told faults g.S.Samples.reads p h t1 j z c.draw_at-refused.result (d ∷ [])) lens (subst (λ k. Drew told faults g.S.Samples.reads p h t1 j (k ∷ []) c.draw_at-refused.result (d ∷ [])) (search rules) c.draw_at-refused.ensures) in
+    let still = drew_still told faults p g.S.Samples.reads h t1 j n (wanted pr l) c.draw_at-refused.result (d ∷ []) c.requires.ready.planned drew in
+    plan_still told faults p g.S.Samples.reads h t1 _ drew.did c.requires.ready.plan
 
 pub part_at-requires-clause-alive : goal.part_at-requires-clause-alive
 part_at-requires-clause-alive g c =
@@ -81,8 +81,8 @@ part_at-requires-clause-alive g c =
     let d = c.draw_at-refused.new.out in
     let size : length d ≡ c.seeding_len-len.result = search rules in
     let lens : length d ∷ [] ≡ wanted pr l = ap (λ k. k ∷ []) (size ∙ len) ∙ sym c.requires.alone.wants in
-    let drew = subst (λ z. Drew told faults p h t1 j z c.draw_at-refused.result (d ∷ [])) lens (subst (λ k. Drew told faults p h t1 j (k ∷ []) c.draw_at-refused.result (d ∷ [])) (search rules) c.draw_at-refused.ensures) in
-    let still = drew_still told faults p h t1 j n (wanted pr l) c.draw_at-refused.result (d ∷ []) c.requires.ready.planned drew in
+    let drew = subst (λ z. Drew told faults g.S.Samples.reads p h t1 j z c.draw_at-refused.result (d ∷ [])) lens (subst (λ k. Drew told faults g.S.Samples.reads p h t1 j (k ∷ []) c.draw_at-refused.result (d ∷ [])) (search rules) c.draw_at-refused.ensures) in
+    let still = drew_still told faults p g.S.Samples.reads h t1 j n (wanted pr l) c.draw_at-refused.result (d ∷ []) c.requires.ready.planned drew in
     ap (λ (x : SlotState). (node_in x).live) still ∙ alive_here told faults p h pr task n ls lo lp l c.requires.ready
 
 pub part_at-requires-clause-seeds : goal.part_at-requires-clause-seeds
@@ -96,8 +96,8 @@ part_at-requires-clause-seeds g c =
     let d = c.draw_at-refused.new.out in
     let size : length d ≡ c.seeding_len-len.result = search rules in
     let lens : length d ∷ [] ≡ wanted pr l = ap (λ k. k ∷ []) (size ∙ len) ∙ sym c.requires.alone.wants in
-    let drew = subst (λ z. Drew told faults p h t1 j z c.draw_at-refused.result (d ∷ [])) lens (subst (λ k. Drew told faults p h t1 j (k ∷ []) c.draw_at-refused.result (d ∷ [])) (search rules) c.draw_at-refused.ensures) in
-    let still = drew_still told faults p h t1 j n (wanted pr l) c.draw_at-refused.result (d ∷ []) c.requires.ready.planned drew in
+    let drew = subst (λ z. Drew told faults g.S.Samples.reads p h t1 j z c.draw_at-refused.result (d ∷ [])) lens (subst (λ k. Drew told faults g.S.Samples.reads p h t1 j (k ∷ []) c.draw_at-refused.result (d ∷ [])) (search rules) c.draw_at-refused.ensures) in
+    let still = drew_still told faults p g.S.Samples.reads h t1 j n (wanted pr l) c.draw_at-refused.result (d ∷ []) c.requires.ready.planned drew in
     let few = (few_at told faults p h n c.requires.ready.counts (first_here told faults p h pr task n ls lo lp l refl c.requires.ready)).0 in
     let same = ap (λ (x : SlotState). (node_in x).seeds) still in omega (arith, few, same)
 
@@ -112,8 +112,8 @@ part_at-requires-clause-gives g c =
     let d = c.draw_at-refused.new.out in
     let size : length d ≡ c.seeding_len-len.result = search rules in
     let lens : length d ∷ [] ≡ wanted pr l = ap (λ k. k ∷ []) (size ∙ len) ∙ sym c.requires.alone.wants in
-    let drew = subst (λ z. Drew told faults p h t1 j z c.draw_at-refused.result (d ∷ [])) lens (subst (λ k. Drew told faults p h t1 j (k ∷ []) c.draw_at-refused.result (d ∷ [])) (search rules) c.draw_at-refused.ensures) in
-    let still = drew_still told faults p h t1 j n (wanted pr l) c.draw_at-refused.result (d ∷ []) c.requires.ready.planned drew in
+    let drew = subst (λ z. Drew told faults g.S.Samples.reads p h t1 j z c.draw_at-refused.result (d ∷ [])) lens (subst (λ k. Drew told faults g.S.Samples.reads p h t1 j (k ∷ []) c.draw_at-refused.result (d ∷ [])) (search rules) c.draw_at-refused.ensures) in
+    let still = drew_still told faults p g.S.Samples.reads h t1 j n (wanted pr l) c.draw_at-refused.result (d ∷ []) c.requires.ready.planned drew in
     let few = (few_at told faults p h n c.requires.ready.counts (first_here told faults p h pr task n ls lo lp l refl c.requires.ready)).1 in
     let same = ap (λ (x : SlotState). (node_in x).gives) still in omega (arith, few, same)
 
@@ -128,8 +128,8 @@ part_at-requires-clause-material g c =
     let d = c.draw_at-refused.new.out in
     let size : length d ≡ c.seeding_len-len.result = search rules in
     let lens : length d ∷ [] ≡ wanted pr l = ap (λ k. k ∷ []) (size ∙ len) ∙ sym c.requires.alone.wants in
-    let drew = subst (λ z. Drew told faults p h t1 j z c.draw_at-refused.result (d ∷ [])) lens (subst (λ k. Drew told faults p h t1 j (k ∷ []) c.draw_at-refused.result (d ∷ [])) (search rules) c.draw_at-refused.ensures) in
-    let still = drew_still told faults p h t1 j n (wanted pr l) c.draw_at-refused.result (d ∷ []) c.requires.ready.planned drew in
+    let drew = subst (λ z. Drew told faults g.S.Samples.reads p h t1 j z c.draw_at-refused.result (d ∷ [])) lens (subst (λ k. Drew told faults g.S.Samples.reads p h t1 j (k ∷ []) c.draw_at-refused.result (d ∷ [])) (search rules) c.draw_at-refused.ensures) in
+    let still = drew_still told faults p g.S.Samples.reads h t1 j n (wanted pr l) c.draw_at-refused.result (d ∷ []) c.requires.ready.planned drew in
     size ∙ len
 
 pub returns : goal.returns
@@ -143,12 +143,12 @@ returns g c =
     let d = c.draw_at-refused.new.out in
     let size : length d ≡ c.seeding_len-len.result = search rules in
     let lens : length d ∷ [] ≡ wanted pr l = ap (λ k. k ∷ []) (size ∙ len) ∙ sym c.requires.alone.wants in
-    let drew = subst (λ z. Drew told faults p h t1 j z c.draw_at-refused.result (d ∷ [])) lens (subst (λ k. Drew told faults p h t1 j (k ∷ []) c.draw_at-refused.result (d ∷ [])) (search rules) c.draw_at-refused.ensures) in
-    let still = drew_still told faults p h t1 j n (wanted pr l) c.draw_at-refused.result (d ∷ []) c.requires.ready.planned drew in
+    let drew = subst (λ z. Drew told faults g.S.Samples.reads p h t1 j z c.draw_at-refused.result (d ∷ [])) lens (subst (λ k. Drew told faults g.S.Samples.reads p h t1 j (k ∷ []) c.draw_at-refused.result (d ∷ [])) (search rules) c.draw_at-refused.ensures) in
+    let still = drew_still told faults p g.S.Samples.reads h t1 j n (wanted pr l) c.draw_at-refused.result (d ∷ []) c.requires.ready.planned drew in
     let u = g.H.Holdings.what c.part_at.new.hold in
     let none = none_refused told faults p c.draw_at-refused.result (search rules) in
-    let drew' = subst (λ (r : Option SourceRefusal). Drew told faults p h t1 j (wanted pr l) r (d ∷ [])) none drew in
-    let did = subst (λ (x : SlotState). Did told faults p t1 u (seeded_part (link p n task x) d c.args.string.now task).acts) still c.part_at.ensures.did in
+    let drew' = subst (λ (r : Option SourceRefusal). Drew told faults g.S.Samples.reads p h t1 j (wanted pr l) r (d ∷ [])) none drew in
+    let did = subst (λ (x : SlotState). Did told faults g.S.Samples.reads p t1 u (seeded_part (link p n task x) d c.args.string.now task).acts) still c.part_at.ensures.did in
     let bytes = subst (λ (x : SlotState). c.part_at.new.out ≡ (seeded_part (link p n task x) d c.args.string.now task).bytes) still c.part_at.ensures.bytes in
     let part = c.requires.alone.part d in
-    sw_done told faults p h t1 u pr c.args.string.now c.part_at.new.out l j (d ∷ []) drew' (subst (λ (x : Work). Did told faults p t1 u x.acts) (sym part) did) (bytes ∙ ap (λ (x : Work). x.bytes) (sym part))
+    sw_done told faults p g.S.Samples.reads h t1 u pr c.args.string.now c.part_at.new.out l j (d ∷ []) drew' (subst (λ (x : Work). Did told faults g.S.Samples.reads p t1 u x.acts) (sym part) did) (bytes ∙ ap (λ (x : Work). x.bytes) (sym part))

@@ -29,9 +29,9 @@ returns-then-is_some g c =
     let t1 = g.H.Holdings.what c.draw_some-refused.new.hold in
     let fresh = c.draw_some-refused.new.out in
     let size = c.split_at_mut-fresh.ensures.front_len in
-    let drew = subst (λ z. Drew told faults p h t1 j z c.draw_some-refused.result (some_string fresh)) (ap (λ k. some_len k) size ∙ sym wants) c.draw_some-refused.ensures in
-    let still = drew_still told faults p h t1 j n (wanted pr l) c.draw_some-refused.result (some_string fresh) c.requires.ready.planned drew in
-    sw_refused told faults p h t1 pr c.args.string.now c.args.out.now l j c.draw_some-refused.result (some_string fresh) (search rules) drew
+    let drew = subst (λ z. Drew told faults g.S.Samples.reads p h t1 j z c.draw_some-refused.result (some_string fresh)) (ap (λ k. some_len k) size ∙ sym wants) c.draw_some-refused.ensures in
+    let still = drew_still told faults p g.S.Samples.reads h t1 j n (wanted pr l) c.draw_some-refused.result (some_string fresh) c.requires.ready.planned drew in
+    sw_refused told faults p g.S.Samples.reads h t1 pr c.args.string.now c.args.out.now l j c.draw_some-refused.result (some_string fresh) (search rules) drew
 
 pub give_at-requires-clause-plan : goal.give_at-requires-clause-plan
 give_at-requires-clause-plan g c =
@@ -43,9 +43,9 @@ give_at-requires-clause-plan g c =
     let t1 = g.H.Holdings.what c.draw_some-refused.new.hold in
     let fresh = c.draw_some-refused.new.out in
     let size = c.split_at_mut-fresh.ensures.front_len in
-    let drew = subst (λ z. Drew told faults p h t1 j z c.draw_some-refused.result (some_string fresh)) (ap (λ k. some_len k) size ∙ sym wants) c.draw_some-refused.ensures in
-    let still = drew_still told faults p h t1 j n (wanted pr l) c.draw_some-refused.result (some_string fresh) c.requires.ready.planned drew in
-    plan_still told faults p h t1 _ drew.did c.requires.ready.plan
+    let drew = subst (λ z. Drew told faults g.S.Samples.reads p h t1 j z c.draw_some-refused.result (some_string fresh)) (ap (λ k. some_len k) size ∙ sym wants) c.draw_some-refused.ensures in
+    let still = drew_still told faults p g.S.Samples.reads h t1 j n (wanted pr l) c.draw_some-refused.result (some_string fresh) c.requires.ready.planned drew in
+    plan_still told faults p g.S.Samples.reads h t1 _ drew.did c.requires.ready.plan
 
 pub give_at-requires-clause-live : goal.give_at-requires-clause-live
 give_at-requires-clause-live g c =
@@ -57,8 +57,8 @@ give_at-requires-clause-live g c =
     let t1 = g.H.Holdings.what c.draw_some-refused.new.hold in
     let fresh = c.draw_some-refused.new.out in
     let size = c.split_at_mut-fresh.ensures.front_len in
-    let drew = subst (λ z. Drew told faults p h t1 j z c.draw_some-refused.result (some_string fresh)) (ap (λ k. some_len k) size ∙ sym wants) c.draw_some-refused.ensures in
-    let still = drew_still told faults p h t1 j n (wanted pr l) c.draw_some-refused.result (some_string fresh) c.requires.ready.planned drew in
+    let drew = subst (λ z. Drew told faults g.S.Samples.reads p h t1 j z c.draw_some-refused.result (some_string fresh)) (ap (λ k. some_len k) size ∙ sym wants) c.draw_some-refused.ensures in
+    let still = drew_still told faults p g.S.Samples.reads h t1 j n (wanted pr l) c.draw_some-refused.result (some_string fresh) c.requires.ready.planned drew in
     ap (λ (x : SlotState). (node_in x).live) still ∙ (alive_here told faults p h pr task n ls lo lp l c.requires.ready ∙ ap (λ (t : Task). not (starts t)) gives)
 
 pub give_at-requires-clause-due : goal.give_at-requires-clause-due
@@ -71,8 +71,8 @@ give_at-requires-clause-due g c =
     let t1 = g.H.Holdings.what c.draw_some-refused.new.hold in
     let fresh = c.draw_some-refused.new.out in
     let size = c.split_at_mut-fresh.ensures.front_len in
-    let drew = subst (λ z. Drew told faults p h t1 j z c.draw_some-refused.result (some_string fresh)) (ap (λ k. some_len k) size ∙ sym wants) c.draw_some-refused.ensures in
-    let still = drew_still told faults p h t1 j n (wanted pr l) c.draw_some-refused.result (some_string fresh) c.requires.ready.planned drew in
+    let drew = subst (λ z. Drew told faults g.S.Samples.reads p h t1 j z c.draw_some-refused.result (some_string fresh)) (ap (λ k. some_len k) size ∙ sym wants) c.draw_some-refused.ensures in
+    let still = drew_still told faults p g.S.Samples.reads h t1 j n (wanted pr l) c.draw_some-refused.result (some_string fresh) c.requires.ready.planned drew in
     ap (λ (x : SlotState). is_due (node_row p n) (node_in x)) still ∙ (not_must p s pr n task (s n) lo gives c.requires.must).0
 
 pub give_at-requires-clause-few : goal.give_at-requires-clause-few
@@ -85,8 +85,8 @@ give_at-requires-clause-few g c =
     let t1 = g.H.Holdings.what c.draw_some-refused.new.hold in
     let fresh = c.draw_some-refused.new.out in
     let size = c.split_at_mut-fresh.ensures.front_len in
-    let drew = subst (λ z. Drew told faults p h t1 j z c.draw_some-refused.result (some_string fresh)) (ap (λ k. some_len k) size ∙ sym wants) c.draw_some-refused.ensures in
-    let still = drew_still told faults p h t1 j n (wanted pr l) c.draw_some-refused.result (some_string fresh) c.requires.ready.planned drew in
+    let drew = subst (λ z. Drew told faults g.S.Samples.reads p h t1 j z c.draw_some-refused.result (some_string fresh)) (ap (λ k. some_len k) size ∙ sym wants) c.draw_some-refused.ensures in
+    let still = drew_still told faults p g.S.Samples.reads h t1 j n (wanted pr l) c.draw_some-refused.result (some_string fresh) c.requires.ready.planned drew in
     let low = (few_at told faults p h n c.requires.ready.counts (first_here told faults p h pr task n ls lo lp l refl c.requires.ready)).1 in
     let same = ap (λ (x : SlotState). (node_in x).gives) still in omega (arith, low, same)
 
@@ -100,14 +100,14 @@ returns g c =
     let t1 = g.H.Holdings.what c.draw_some-refused.new.hold in
     let fresh = c.draw_some-refused.new.out in
     let size = c.split_at_mut-fresh.ensures.front_len in
-    let drew = subst (λ z. Drew told faults p h t1 j z c.draw_some-refused.result (some_string fresh)) (ap (λ k. some_len k) size ∙ sym wants) c.draw_some-refused.ensures in
-    let still = drew_still told faults p h t1 j n (wanted pr l) c.draw_some-refused.result (some_string fresh) c.requires.ready.planned drew in
+    let drew = subst (λ z. Drew told faults g.S.Samples.reads p h t1 j z c.draw_some-refused.result (some_string fresh)) (ap (λ k. some_len k) size ∙ sym wants) c.draw_some-refused.ensures in
+    let still = drew_still told faults p g.S.Samples.reads h t1 j n (wanted pr l) c.draw_some-refused.result (some_string fresh) c.requires.ready.planned drew in
     let u = g.H.Holdings.what c.give_at.new.hold in
     let none = none_refused told faults p c.draw_some-refused.result (search rules) in
-    let drew' = subst (λ (r : Option SourceRefusal). Drew told faults p h t1 j (wanted pr l) r (some_string fresh)) none drew in
+    let drew' = subst (λ (r : Option SourceRefusal). Drew told faults g.S.Samples.reads p h t1 j (wanted pr l) r (some_string fresh)) none drew in
     let given = c.give_at.new.out in
     let is : given ≡ given_bytes (node_row p n) (node_in (s n)) c.args.string.now lo = c.give_at.ensures.bytes ∙ ap (λ (x : SlotState). given_bytes (node_row p n) (node_in x) c.args.string.now lo) still in
     let part = part_plain p pr n task (s n) lo gives c.requires.xor (some_string fresh) c.args.string.now c.requires.must in
-    sw_done told faults p h t1 u pr c.args.string.now c.xor_bytes.new.out l j (some_string fresh) drew'
-    (subst (λ (w : Work). Did told faults p t1 u w.acts) (sym part) (subst (λ z. Did told faults p t1 u (record { slot = n; act = AtNode (Gave c.args.string.now lo z) } ∷ [])) is c.give_at.ensures.did))
+    sw_done told faults p g.S.Samples.reads h t1 u pr c.args.string.now c.xor_bytes.new.out l j (some_string fresh) drew'
+    (subst (λ (w : Work). Did told faults g.S.Samples.reads p t1 u w.acts) (sym part) (subst (λ z. Did told faults g.S.Samples.reads p t1 u (record { slot = n; act = AtNode (Gave c.args.string.now lo z) } ∷ [])) is c.give_at.ensures.did))
     (c.xor_bytes.ensures ∙ (last_plain given fresh ∙ (ap (λ z. xor_bytes z (last_drawn (some_string fresh))) is ∙ ap (λ (w : Work). w.bytes) (sym part))))

@@ -76,9 +76,9 @@ returns-then-is_some g c =
     let t1 = g.H.Holdings.what c.draw_strings-refused.new.hold in
     let spare = c.draw_strings-refused.new.spare in
     let ss = pieces count (c.entropy_len-entropy.result + 8) spare in
-    let drew = subst (λ z. Drew told faults p h t1 j z c.draw_strings-refused.result ss) (sym wants) c.draw_strings-refused.ensures in
-    let still = drew_still told faults p h t1 j n (wanted pr l) c.draw_strings-refused.result ss c.requires.ready.planned drew in
-    sw_refused told faults p h t1 pr c.args.string.now c.args.out.now l j c.draw_strings-refused.result ss (search rules) drew
+    let drew = subst (λ z. Drew told faults g.S.Samples.reads p h t1 j z c.draw_strings-refused.result ss) (sym wants) c.draw_strings-refused.ensures in
+    let still = drew_still told faults p g.S.Samples.reads h t1 j n (wanted pr l) c.draw_strings-refused.result ss c.requires.ready.planned drew in
+    sw_refused told faults p g.S.Samples.reads h t1 pr c.args.string.now c.args.out.now l j c.draw_strings-refused.result ss (search rules) drew
 
 pub give_chunks-requires-clause-plan : goal.give_chunks-requires-clause-plan
 give_chunks-requires-clause-plan g c =
@@ -99,9 +99,9 @@ give_chunks-requires-clause-plan g c =
     let t1 = g.H.Holdings.what c.draw_strings-refused.new.hold in
     let spare = c.draw_strings-refused.new.spare in
     let ss = pieces count (c.entropy_len-entropy.result + 8) spare in
-    let drew = subst (λ z. Drew told faults p h t1 j z c.draw_strings-refused.result ss) (sym wants) c.draw_strings-refused.ensures in
-    let still = drew_still told faults p h t1 j n (wanted pr l) c.draw_strings-refused.result ss c.requires.ready.planned drew in
-    plan_still told faults p h t1 _ drew.did c.requires.ready.plan
+    let drew = subst (λ z. Drew told faults g.S.Samples.reads p h t1 j z c.draw_strings-refused.result ss) (sym wants) c.draw_strings-refused.ensures in
+    let still = drew_still told faults p g.S.Samples.reads h t1 j n (wanted pr l) c.draw_strings-refused.result ss c.requires.ready.planned drew in
+    plan_still told faults p g.S.Samples.reads h t1 _ drew.did c.requires.ready.plan
 
 pub give_chunks-requires-clause-live : goal.give_chunks-requires-clause-live
 give_chunks-requires-clause-live g c =
@@ -122,8 +122,8 @@ give_chunks-requires-clause-live g c =
     let t1 = g.H.Holdings.what c.draw_strings-refused.new.hold in
     let spare = c.draw_strings-refused.new.spare in
     let ss = pieces count (c.entropy_len-entropy.result + 8) spare in
-    let drew = subst (λ z. Drew told faults p h t1 j z c.draw_strings-refused.result ss) (sym wants) c.draw_strings-refused.ensures in
-    let still = drew_still told faults p h t1 j n (wanted pr l) c.draw_strings-refused.result ss c.requires.ready.planned drew in
+    let drew = subst (λ z. Drew told faults g.S.Samples.reads p h t1 j z c.draw_strings-refused.result ss) (sym wants) c.draw_strings-refused.ensures in
+    let still = drew_still told faults p g.S.Samples.reads h t1 j n (wanted pr l) c.draw_strings-refused.result ss c.requires.ready.planned drew in
     ap (λ (x : SlotState). (node_in x).live) still ∙ (alive_here told faults p h pr task n ls lo lp l c.requires.ready ∙ ap (λ (t : Task). not (starts t)) gives)
 
 pub give_chunks-requires-clause-seeds : goal.give_chunks-requires-clause-seeds
@@ -145,8 +145,8 @@ give_chunks-requires-clause-seeds g c =
     let t1 = g.H.Holdings.what c.draw_strings-refused.new.hold in
     let spare = c.draw_strings-refused.new.spare in
     let ss = pieces count (c.entropy_len-entropy.result + 8) spare in
-    let drew = subst (λ z. Drew told faults p h t1 j z c.draw_strings-refused.result ss) (sym wants) c.draw_strings-refused.ensures in
-    let still = drew_still told faults p h t1 j n (wanted pr l) c.draw_strings-refused.result ss c.requires.ready.planned drew in
+    let drew = subst (λ z. Drew told faults g.S.Samples.reads p h t1 j z c.draw_strings-refused.result ss) (sym wants) c.draw_strings-refused.ensures in
+    let still = drew_still told faults p g.S.Samples.reads h t1 j n (wanted pr l) c.draw_strings-refused.result ss c.requires.ready.planned drew in
     let low = (few_at told faults p h n c.requires.ready.counts (first_here told faults p h pr task n ls lo lp l refl c.requires.ready)).0 in
     let same = ap (λ (x : SlotState). (node_in x).seeds) still in let most = rooms.1.0 in omega (arith, low, same, most)
 
@@ -169,8 +169,8 @@ give_chunks-requires-clause-gives g c =
     let t1 = g.H.Holdings.what c.draw_strings-refused.new.hold in
     let spare = c.draw_strings-refused.new.spare in
     let ss = pieces count (c.entropy_len-entropy.result + 8) spare in
-    let drew = subst (λ z. Drew told faults p h t1 j z c.draw_strings-refused.result ss) (sym wants) c.draw_strings-refused.ensures in
-    let still = drew_still told faults p h t1 j n (wanted pr l) c.draw_strings-refused.result ss c.requires.ready.planned drew in
+    let drew = subst (λ z. Drew told faults g.S.Samples.reads p h t1 j z c.draw_strings-refused.result ss) (sym wants) c.draw_strings-refused.ensures in
+    let still = drew_still told faults p g.S.Samples.reads h t1 j n (wanted pr l) c.draw_strings-refused.result ss c.requires.ready.planned drew in
     let low = (few_at told faults p h n c.requires.ready.counts (first_here told faults p h pr task n ls lo lp l refl c.requires.ready)).1 in
     let same = ap (λ (x : SlotState). (node_in x).gives) still in let most = rooms.1.0 in omega (arith, low, same, most)
 
@@ -193,8 +193,8 @@ give_chunks-requires-clause-strings g c =
     let t1 = g.H.Holdings.what c.draw_strings-refused.new.hold in
     let spare = c.draw_strings-refused.new.spare in
     let ss = pieces count (c.entropy_len-entropy.result + 8) spare in
-    let drew = subst (λ z. Drew told faults p h t1 j z c.draw_strings-refused.result ss) (sym wants) c.draw_strings-refused.ensures in
-    let still = drew_still told faults p h t1 j n (wanted pr l) c.draw_strings-refused.result ss c.requires.ready.planned drew in
+    let drew = subst (λ z. Drew told faults g.S.Samples.reads p h t1 j z c.draw_strings-refused.result ss) (sym wants) c.draw_strings-refused.ensures in
+    let still = drew_still told faults p g.S.Samples.reads h t1 j n (wanted pr l) c.draw_strings-refused.result ss c.requires.ready.planned drew in
     let room = c.requires.ready.room in let a = rooms.0 in let new = c.draw_strings-refused.auto.spare in
     let b : count * (e + 8) ≤ length spare = omega (arith, a, room, space, size, new) in
     subst (λ k. count * (k + 8) ≤ length spare) (sym entropy) b
@@ -218,15 +218,15 @@ returns g c =
     let t1 = g.H.Holdings.what c.draw_strings-refused.new.hold in
     let spare = c.draw_strings-refused.new.spare in
     let ss = pieces count (c.entropy_len-entropy.result + 8) spare in
-    let drew = subst (λ z. Drew told faults p h t1 j z c.draw_strings-refused.result ss) (sym wants) c.draw_strings-refused.ensures in
-    let still = drew_still told faults p h t1 j n (wanted pr l) c.draw_strings-refused.result ss c.requires.ready.planned drew in
+    let drew = subst (λ z. Drew told faults g.S.Samples.reads p h t1 j z c.draw_strings-refused.result ss) (sym wants) c.draw_strings-refused.ensures in
+    let still = drew_still told faults p g.S.Samples.reads h t1 j n (wanted pr l) c.draw_strings-refused.result ss c.requires.ready.planned drew in
     let u = g.H.Holdings.what c.give_chunks.new.hold in
     let none = none_refused told faults p c.draw_strings-refused.result (search rules) in
-    let drew' = subst (λ (r : Option SourceRefusal). Drew told faults p h t1 j (wanted pr l) r ss) none drew in
+    let drew' = subst (λ (r : Option SourceRefusal). Drew told faults g.S.Samples.reads p h t1 j (wanted pr l) r ss) none drew in
     let x = c.entropy_len-entropy.result in
     let same : chunked (link p n Rests (states_held told faults t1 n)) (node_in (states_held told faults t1 n)) c.args.string.now ss (chunk_lens count x lo) ≡ task_work pr ss c.args.string.now l [] task =
     ap (λ (v : SlotState). chunked (link p n Rests v) (node_in v) c.args.string.now ss (chunk_lens count x lo)) still
     ∙ (chunked_same p n Rests task (s n) (s n) (node_in (s n)) c.args.string.now ss (chunk_lens count x lo)
     ∙ (ap (λ k. chunked l (node_in (s n)) c.args.string.now ss (chunk_lens count k lo)) entropy
     ∙ (sym (rs_part pr l lo count c.args.string.now [] ss c.requires.rs many) ∙ ap (λ (t : Task). task_work pr ss c.args.string.now l [] t) (sym gives)))) in
-    sw_done told faults p h t1 u pr c.args.string.now c.give_chunks.new.out l j ss drew' (subst (λ (w : Work). Did told faults p t1 u w.acts) same c.give_chunks.ensures.did) (c.give_chunks.ensures.bytes ∙ ap (λ (w : Work). w.bytes) same)
+    sw_done told faults p g.S.Samples.reads h t1 u pr c.args.string.now c.give_chunks.new.out l j ss drew' (subst (λ (w : Work). Did told faults g.S.Samples.reads p t1 u w.acts) same c.give_chunks.ensures.did) (c.give_chunks.ensures.bytes ∙ ap (λ (w : Work). w.bytes) same)

@@ -4,8 +4,8 @@ use Rattle.rbg_nodes.specs.Node.{NodeState}
 use Rattle.rbg_nodes.specs.Views.{counts_of}
 use Rattle.tree_rules.specs.declared.call.Call.TheVariants.{Status}
 use Rattle.tree_rules.specs.declared.reply.Reply.{Reply}
-use Rattle.tree_rules.specs.Served.{Served}
-use Rattle.tree_acts.specs.Hold.{states_held, node_held}
+use Rattle.tree_acts.specs.Hold.{node_held}
+use Rattle.tree_acts.specs.Made.{ServedBy}
 use Rattle.tree_acts.specs.Wiped.{AreKeptOrZeros, IsWipedBehind}
 use Rattle.tree_acts.proofs.Wiping.{kept}
 use Rattle.tree_core.proofs.Single.{status_served}
@@ -13,11 +13,11 @@ use Rattle.tree_core.proofs.working.status_work.Goals as goal
 
 pub returns-clause-served : goal.returns-clause-served
 returns-clause-served g c =
-    let told = g.S.Samples.told in let faults = g.S.Samples.faults in let p = c.args.plan.now in let h = g.H.Holdings.what c.args.hold.now in let s = states_held told faults h in
+    let told = g.S.Samples.told in let faults = g.S.Samples.faults in let p = c.args.plan.now in let h = g.H.Holdings.what c.args.hold.now in
     let state : node_held told faults h c.args.n ≡ c.node.result.now.state = rw c.node.ensures refl in
     let bytes = c.put_counts.ensures.bytes (node_held told faults h c.args.n) (c.counts.ensures.counts ∙ ap (λ (x : NodeState). counts_of x) (sym state)) in
-    subst (λ (r : Reply). Served p s s (Status c.args.n) c.args.input.now r (take r.len c.put_counts.new.out)) (sym c.done.ensures)
-    (status_served p s c.args.input.now (take 25 c.put_counts.new.out) c.args.n c.requires.free bytes)
+    subst (λ (r : Reply). ServedBy told faults g.S.Samples.reads p h h (Status c.args.n) c.args.input.now r (take r.len c.put_counts.new.out)) (sym c.done.ensures)
+    (status_served told faults g.S.Samples.reads p h c.args.input.now (take 25 c.put_counts.new.out) c.args.n c.requires.free bytes)
 
 pub returns-clause-behind : goal.returns-clause-behind
 returns-clause-behind g c =
