@@ -6,15 +6,15 @@ use Rattle.frame_codec.specs.Grammar.{text_of, IsFramed}
 use Rattle.frame_codec.specs.Frames.{requests, request_fields, request_numbers, Asked, IsPart, IsScript}
 use Rattle.frame_codec.specs.Decoding.{Begun, Reads}
 use Rattle.frame_codec.proofs.Rows.{length-spelled}
-use Rattle.frame_codec.proofs.Requests.{asks-generate}
+use Rattle.frame_codec.proofs.Requests.{short-string}
 
 -- how many bytes the longest request frame has
 abbrev pub longest : ℕ
-longest = 16
+longest = 4112
 
 pub frame-short : (a : Asked) → IsFramed requests a → length (text_of requests a) ≤ longest
 frame-short a framed =
-    omega (arith, length-append (spelled request_fields (request_numbers a.head)) a.string, length-spelled request_fields [] (request_numbers a.head) framed.taken, framed.string, (asks-generate a framed).4)
+    omega (arith, length-append (spelled request_fields (request_numbers a.head)) a.string, length-spelled request_fields [] (request_numbers a.head) framed.taken, framed.string, short-string (request_numbers a.head) framed.taken)
 
 some-byte : (b : List ℕ) → b ≢ [] → 0 < length b
 some-byte [] some = absurd (some refl)

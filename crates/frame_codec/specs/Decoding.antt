@@ -1,6 +1,6 @@
 -- What the decoder of requests has read, and what a byte or a piece of bytes makes of it.
 -- This project's own.
-use Rattle.std.specs.Prelude.{◌≡◌, ◌<◌, ℕ, ◌+◌, List, [], ◌∷◌, ◌++◌, length, take}
+use Rattle.std.specs.Prelude.{◌≡◌, ◌<◌, ◌≤◌, ◌⊎◌, ℕ, ◌+◌, List, [], ◌∷◌, ◌++◌, length, take, if◌then◌else◌, nat_lt}
 use Rattle.frame_codec.specs.declared.frames.Request.{Request}
 use Rattle.frame_codec.specs.declared.table.Table.TheVariants.{Requests}
 use Rattle.frame_codec.specs.declared.head.Head.{Head}
@@ -9,7 +9,7 @@ use Rattle.frame_codec.specs.declared.decoder.Step.TheVariants.{More, Whole, Bad
 use Rattle.frame_codec.specs.Rows.{why_at}
 use Rattle.frame_codec.specs.Grammar.{Grammar, text_of, IsFramed, IsFramePart, BeginsNoFrame}
 use Rattle.frame_codec.specs.Frames.{requests, Asked, IsScript, IsBadAt}
-use Rattle.frame_codec.specs.Heads.{IsBegun}
+use Rattle.frame_codec.specs.Heads.{fields_of, numbers_of, bytes_of, IsBegun, IsWhole}
 
 -- the bytes of the frame that is begun, the string of the frame that was whole last, and the number of bytes pushed
 pub record Begun : Type 0 where
@@ -17,10 +17,26 @@ pub record Begun : Type 0 where
   pub string : List ℕ
   pub offset : ℕ
 
--- a head of a request that is begun
-pub record IsAsking (h : Head) : Type 0 where
+-- the bytes of a head, and of the string so far where the head is whole
+abbrev pub rest_of : Head → ℕ → List ℕ → List ℕ
+rest_of h got string = bytes_of h ++ (if nat_lt h.index (length (fields_of h.table)) then [] else take got string)
+
+-- how long a whole head says that its string is
+abbrev pub len_of : Grammar Request → Head → ℕ
+len_of g h = g.len (g.head (numbers_of h))
+
+-- a head of a request that is begun, or a whole one whose string is not whole
+pub record IsAsking (h : Head) (got : ℕ) : Type 0 where
   pub table : h.table ≡ Requests
-  pub head : IsBegun h
+  pub head : IsBegun h ⊎ (IsWhole h × (got < len_of requests h))
+  pub room : got ≤ 4096
+
+-- whether the string of a whole head is whole too, with so many bytes of it
+abbrev pub Finishes : Grammar Request → Head → ℕ → Step → Head → Type 0
+Finishes g old got More new = (got < len_of g old) × (new ≡ old)
+Finishes g old got (Whole r) new =
+    (r ≡ g.head (numbers_of old)) × (len_of g old ≤ got) × IsBegun new × (bytes_of new ≡ []) × (new.table ≡ old.table)
+Finishes g old got (Bad at why) new = ⊥
 
 -- the bytes b are a part of a frame
 pub record StaysWithin (g : Grammar Request) (b : List ℕ) (new : Begun) : Type 0 where

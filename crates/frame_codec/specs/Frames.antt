@@ -1,6 +1,6 @@
 -- The frames of version 1: the rows of requests and of replies, scripts of requests and the first bad byte.
--- This project's own protocol. Of requests only Generate without a string is served yet.
-use Rattle.std.specs.Prelude.{◌≡◌, ◌<◌, ℕ, ◌+◌, List, [], ◌∷◌, length, take, slice_index, if◌then◌else◌, nat_eq}
+-- This project's own protocol.
+use Rattle.std.specs.Prelude.{◌≡◌, ◌<◌, ℕ, ◌+◌, List, [], ◌∷◌, length, take, slice_index, if◌then◌else◌, nat_eq, nat_lt, ◌||◌}
 use Rattle.frame_codec.specs.declared.table.Span.{Span}
 use Rattle.frame_codec.specs.declared.frames.Request.{Request}
 use Rattle.frame_codec.specs.declared.frames.ReplyHead.{ReplyHead}
@@ -16,18 +16,37 @@ zero_only = from_to 0 0
 abbrev pub field : ℕ → ℕ → (List ℕ → List Span) → Field
 field width why spans = record { width = width; why = why; spans = spans }
 
--- The fields of a request, in their order: version, op, flags, node, id, count, strength, length of the string.
--- A bad byte in a field has the number 9, a form that is not served yet.
+abbrev pub op_of : List ℕ → ℕ
+op_of before = slice_index before 1
+
+-- bit 0, which asks for prediction resistance, in a Generate and a Reseed
+abbrev pub flags_of : ℕ → List Span
+flags_of op = if nat_eq op 2 || nat_eq op 3 then from_to 0 1 else zero_only
+
+-- how many bytes are asked, in a Generate
+abbrev pub counts_of : ℕ → List Span
+counts_of op = if nat_eq op 2 then from_to 0 0xffffffff else zero_only
+
+-- the strength that is asked, in an Instantiate and a Generate
+abbrev pub strengths_of : ℕ → List Span
+strengths_of op = if nat_eq op 1 || nat_eq op 2 then from_to 0 0xffff else zero_only
+
+-- how long the string is: up to 4,096 bytes in an Instantiate, a Generate and a Reseed
+abbrev pub lens_of : ℕ → List Span
+lens_of op = if nat_lt op 4 then from_to 0 4096 else zero_only
+
+-- The fields of a request, in their order: version, op, flags, node, id, count, strength, length of the string. No byte of a node or
+-- an id is bad.
 abbrev pub request_fields : List Field
 request_fields =
-    field 1 9 (λ (before : List ℕ). from_to 1 1)
-    ∷ field 1 9 (λ (before : List ℕ). from_to 2 2)
-    ∷ field 1 9 (λ (before : List ℕ). zero_only)
-    ∷ field 1 9 (λ (before : List ℕ). zero_only)
-    ∷ field 4 9 (λ (before : List ℕ). from_to 0 0xffffffff)
-    ∷ field 4 9 (λ (before : List ℕ). from_to 0 0xffffffff)
-    ∷ field 2 9 (λ (before : List ℕ). zero_only)
-    ∷ field 2 9 (λ (before : List ℕ). zero_only)
+    field 1 1 (λ (before : List ℕ). from_to 1 1)
+    ∷ field 1 2 (λ (before : List ℕ). from_to 1 6)
+    ∷ field 1 3 (λ (before : List ℕ). flags_of (op_of before))
+    ∷ field 1 0 (λ (before : List ℕ). from_to 0 0xff)
+    ∷ field 4 0 (λ (before : List ℕ). from_to 0 0xffffffff)
+    ∷ field 4 4 (λ (before : List ℕ). counts_of (op_of before))
+    ∷ field 2 5 (λ (before : List ℕ). strengths_of (op_of before))
+    ∷ field 2 6 (λ (before : List ℕ). lens_of (op_of before))
     ∷ []
 
 -- the numbers of the fields
@@ -47,6 +66,10 @@ request_of ns = record {
 
 abbrev pub requests : Grammar Request
 requests = record { fields = request_fields; numbers = request_numbers; head = request_of; len = λ (r : Request). r.len }
+
+-- the head is one that requests may have
+abbrev pub IsRequestHead : Request → Type 0
+IsRequestHead r = Takes request_fields [] (request_numbers r)
 
 -- a request with its string
 abbrev pub Asked : Type 0

@@ -1,13 +1,16 @@
 // Request frames out of a stream of bytes.
 
-ghost use Rattle.std.specs.Prelude.{◌≡◌, ◌<◌, ◌≤◌, ◌+◌, ◌^◌, ◌↔◌, [], length, take, IsTrue};
-ghost use Rattle.frame_codec.specs.Rows.{Takes};
-ghost use Rattle.frame_codec.specs.Frames.{requests};
-ghost use Rattle.frame_codec.specs.Decoding.{Steps, Feeds, Reads};
+ghost use Rattle.std.specs.Prelude.{◌≡◌, ◌<◌, ◌≤◌, ◌+◌, ◌^◌, ◌↔◌, [], length, take, IsTrue, IfSome};
+ghost use Rattle.frame_codec.specs.Rows.{Takes, spelled};
+ghost use Rattle.frame_codec.specs.Frames.{requests, request_fields, request_numbers, IsRequestHead};
+ghost use Rattle.frame_codec.specs.Heads.{IsWhole};
+ghost use Rattle.frame_codec.specs.Decoding.{Steps, Feeds, Reads, Finishes, len_of};
 
+use crate::encode::request_head;
 use crate::frames::Request;
-use crate::head::{Head, HeadStep};
-use crate::table::Table;
+use crate::head::{Head, HeadStep, takes_all};
+use crate::table::{Table, count};
+use rbg_bytes::put_at;
 use std::marker::Model;
 
 /// What a byte, or a piece of bytes, makes of a stream of request frames.
@@ -20,6 +23,19 @@ pub enum Step {
     /// No frame goes on with the byte: its place in the whole stream, and the number of the field in which it stands.
     Bad { offset: u64, why: u8 },
 }
+
+// Whether the frame goes on.
+fn is_more(step: &Step) -> bool
+    ensures { IsTrue result ↔ (step.now ≡ Step.More) }
+{
+    matches!(step, Step::More)
+}
+
+// How many bytes the head of a request has.
+const HEAD_LEN: usize = 16;
+
+// The most bytes of a string.
+const STRING_LEN: usize = 4096;
 
 // The request with these numbers.
 fn request_of(numbers: &[u64; 8]) -> Request
@@ -38,24 +54,103 @@ fn request_of(numbers: &[u64; 8]) -> Request
     }
 }
 
+// The numbers of a request's fields.
+fn numbers_of(request: &Request) -> [u64; 8]
+    ensures { result ≡ request_numbers request.now }
+{
+    [
+        1,
+        u64::from(request.op),
+        u64::from(request.flags),
+        u64::from(request.node),
+        u64::from(request.id),
+        u64::from(request.count),
+        u64::from(request.strength),
+        u64::from(request.len),
+    ]
+}
+
+// Whether requests may have this head.
+fn is_head(request: &Request) -> bool
+    ensures { IsTrue result → IsRequestHead request.now }
+{
+    takes_all(Table::Requests, &numbers_of(request))
+}
+
+// Whether the bytes begin with this head.
+fn begins_with(bytes: &[u8], head: &[u8; 16]) -> bool
+    requires { 16 ≤ length bytes.now }
+    ensures { IsTrue result → take 16 bytes.now ≡ head.now }
+{
+    bytes[..HEAD_LEN] == head[..]
+}
+
+// The request whose head the bytes begin with, where they begin with a whole one.
+fn whole_head(bytes: &[u8]) -> Option<Request>
+    ensures { IfSome result (λ r. (16 ≤ length bytes.now) × IsRequestHead r × (take 16 bytes.now ≡ spelled request_fields (request_numbers r))) }
+{
+    if bytes.len() < HEAD_LEN {
+        return None;
+    }
+    let request = Request {
+        op: bytes[1],
+        flags: bytes[2],
+        node: bytes[3],
+        id: u32::from_be_bytes([bytes[4], bytes[5], bytes[6], bytes[7]]),
+        count: u32::from_be_bytes([bytes[8], bytes[9], bytes[10], bytes[11]]),
+        strength: u16::from_be_bytes([bytes[12], bytes[13]]),
+        len: u16::from_be_bytes([bytes[14], bytes[15]]),
+    };
+    if is_head(&request) && begins_with(bytes, &request_head(&request)) {
+        Some(request)
+    } else {
+        None
+    }
+}
+
+// How long the string of a whole head is.
+fn string_len(head: &Head) -> usize
+    requires whole { IsWhole head.now }
+    requires table { head.now.table ≡ Table.Requests }
+    ensures len { result ≡ len_of requests head.now }
+    ensures most { result ≤ 4096 }
+{
+    usize::from(request_of(&head.numbers).len)
+}
+
+// What a whole head asks, once its string is whole too; then the next frame is begun.
+fn finish(head: &mut Head, got: usize) -> Step
+    requires whole { IsWhole head.old }
+    requires table { head.old.table ≡ Table.Requests }
+    ensures { Finishes requests head.old got result head.new }
+{
+    let request = request_of(&head.numbers);
+    if got < usize::from(request.len) {
+        return Step::More;
+    }
+    head.restart();
+    Step::Whole(request)
+}
+
 /// A decoder of request frames. Contracts see it as the bytes of the frame that is begun, the string of the frame that was
 /// whole last, and the number of bytes pushed.
 #[derive(Drop)]
 pub struct Decoder {
     head: Head,
+    string: [u8; STRING_LEN],
+    got: usize,
     offset: u64,
 }
 
 impl Model for Decoder {
-    ghost use Rattle.std.specs.Prelude.{[]};
-    ghost use Rattle.frame_codec.specs.Heads.{bytes_of};
-    ghost use Rattle.frame_codec.specs.Decoding.{Begun, IsAsking};
+    ghost use Rattle.std.specs.Prelude.{take};
+    ghost use Rattle.frame_codec.specs.Decoding.{Begun, rest_of, IsAsking};
 
     ghost Value = { Begun };
 
-    ghost view = { λ d. record { rest = bytes_of d.head; string = []; offset = d.offset } };
+    ghost view = { λ d. record { rest = rest_of d.head d.got d.string; string = take d.got d.string; offset = d.offset } };
 
-    ghost invariant = { λ d. IsAsking d.head };
+    ghost invariant = { λ d. IsAsking d.head d.got };
 }
 
 impl Decoder {
@@ -68,6 +163,8 @@ impl Decoder {
     {
         Decoder {
             head: Head::fresh(Table::Requests),
+            string: [0; STRING_LEN],
+            got: 0,
             offset: 0,
         }
     }
@@ -81,15 +178,48 @@ impl Decoder {
     {
         let offset = self.offset;
         self.offset = offset + 1;
-        match self.head.push(byte) {
-            HeadStep::More => Step::More,
-            HeadStep::Bad { why } => Step::Bad { offset, why },
-            HeadStep::Whole => {
-                let request = request_of(&self.head.numbers);
-                self.head.restart();
-                Step::Whole(request)
+        if self.head.index < count(self.head.table) {
+            return match self.head.push(byte) {
+                HeadStep::More => Step::More,
+                HeadStep::Bad { why } => Step::Bad { offset, why },
+                HeadStep::Whole => {
+                    self.got = 0;
+                    finish(&mut self.head, 0)
+                }
+            };
+        }
+        self.string[self.got] = byte;
+        self.got += 1;
+        finish(&mut self.head, self.got)
+    }
+
+    // Takes some of the bytes: a whole head, what there is of a string, or one byte.
+    fn feed_some(&mut self, bytes: &[u8]) -> (usize, Step)
+        requires some { 0 < length bytes.now }
+        requires offset { self.old.offset + length bytes.now ≤ 2 ^ 62 }
+        ensures step { Feeds self.old (take result.0 bytes.now) result.0 result.1 self.new }
+        ensures offset { self.new.offset ≡ self.old.offset + result.0 }
+        ensures within { (0 < result.0) × (result.0 ≤ length bytes.now) }
+    {
+        if self.head.index == 0 && self.head.have == 0 {
+            if let Some(request) = whole_head(bytes) {
+                self.got = 0;
+                self.offset += HEAD_LEN as u64;
+                if request.len == 0 {
+                    return (HEAD_LEN, Step::Whole(request));
+                }
+                self.head.fill(numbers_of(&request));
+                return (HEAD_LEN, Step::More);
             }
         }
+        if self.head.index < count(self.head.table) {
+            return (1, self.push(bytes[0]));
+        }
+        let count = (string_len(&self.head) - self.got).min(bytes.len());
+        put_at(&mut self.string, self.got, &bytes[..count]);
+        self.got += count;
+        self.offset += count as u64;
+        (count, finish(&mut self.head, self.got))
     }
 
     /// Takes bytes in order, up to the first that ends a frame or is bad, and says how many were taken.
@@ -101,29 +231,29 @@ impl Decoder {
     {
         // What is begun is a part of a frame.
         let _head = &self.head;
-        for (i, byte) in bytes.iter().enumerate() {
-            let step = self.push(*byte);
-            if step != Step::More {
-                return (i + 1, step);
+        let mut at = 0;
+        'pieces: while at < bytes.len() {
+            let (count, step) = self.feed_some(&bytes[at..]);
+            at += count;
+            if !is_more(&step) {
+                return (at, step);
             }
         }
-        (bytes.len(), Step::More)
+        (at, Step::More)
     }
 
-    /// The string of the frame that was just whole; in each that is served yet it is empty.
+    /// The string of the frame that was just whole, empty where it has none.
     pub fn string(&self) -> &[u8]
         ensures { result.now ≡ self.now.string }
     {
-        // No frame that is served yet has a string.
-        let _head = &self.head;
-        &[]
+        &self.string[..self.got]
     }
 
     /// Whether the bytes pushed end within a frame.
     pub fn inside(&self) -> bool
         ensures { IsTrue result ↔ (0 < length self.now.rest) }
     {
-        self.head.is_inside()
+        0 < self.head.index || 0 < self.head.have
     }
 
     /// How many bytes were pushed.

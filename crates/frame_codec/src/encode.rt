@@ -1,9 +1,9 @@
 // Frames as bytes.
 
 ghost use Rattle.std.specs.Prelude.{◌≡◌, ◌≤◌, ◌+◌, [], ◌++◌, length, take, drop};
-ghost use Rattle.frame_codec.specs.Rows.{Takes, spelled};
+ghost use Rattle.frame_codec.specs.Rows.{spelled};
 ghost use Rattle.frame_codec.specs.Grammar.{text_of, IsFramed};
-ghost use Rattle.frame_codec.specs.Frames.{requests, request_fields, request_numbers, reply_fields, reply_numbers, IsReplyHead};
+ghost use Rattle.frame_codec.specs.Frames.{requests, request_fields, request_numbers, reply_fields, reply_numbers, IsReplyHead, IsRequestHead};
 
 use crate::frames::{ReplyHead, Request};
 use rbg_bytes::{put_at, put_front};
@@ -23,9 +23,9 @@ pub fn encode_reply(head: &ReplyHead, out: &mut [u8; 28])
     ];
 }
 
-// The head of a request frame.
-fn request_head(request: &Request) -> [u8; 16]
-    requires { Takes request_fields [] (request_numbers request.now) }
+/// The bytes of the head of a request.
+pub fn request_head(request: &Request) -> [u8; 16]
+    requires { IsRequestHead request.now }
     ensures { result ≡ spelled request_fields (request_numbers request.now) }
 {
     let [i0, i1, i2, i3] = request.id.to_be_bytes();

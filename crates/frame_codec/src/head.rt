@@ -1,8 +1,8 @@
 // The head of a frame, a byte at a time, by the table of its fields.
 
-ghost use Rattle.std.specs.Prelude.{[], ◌≡◌, ◌<◌, ◌↔◌, length, IsTrue};
-ghost use Rattle.frame_codec.specs.Rows.{Reaches};
-ghost use Rattle.frame_codec.specs.Heads.{bytes_of, IsBegun, HeadSteps};
+ghost use Rattle.std.specs.Prelude.{[], ◌≡◌, ◌<◌, ◌↔◌, length, take, IsTrue};
+ghost use Rattle.frame_codec.specs.Rows.{Reaches, Takes};
+ghost use Rattle.frame_codec.specs.Heads.{bytes_of, fields_of, numbers_of, IsBegun, IsWhole, HeadSteps};
 
 use crate::table::{Span, Table, count, spans, why, width};
 
@@ -36,6 +36,18 @@ fn reaches(spans: &[Span], left: usize, number: u64) -> bool
     false
 }
 
+/// Whether the fields may hold these numbers.
+pub fn takes_all(table: Table, numbers: &[u64; 8]) -> bool
+    ensures { IsTrue result → Takes (fields_of table) [] (take (length (fields_of table)) numbers.now) }
+{
+    for index in 0..count(table) {
+        if !reaches(spans(table, index, numbers), 0, numbers[index]) {
+            return false;
+        }
+    }
+    true
+}
+
 impl Head {
     /// A head of which there is no byte yet.
     pub fn fresh(table: Table) -> Head
@@ -50,6 +62,19 @@ impl Head {
             number: 0,
             have: 0,
         }
+    }
+
+    /// Makes the head whole at once, of these numbers.
+    pub fn fill(&mut self, numbers: [u64; 8])
+        requires { Takes (fields_of self.old.table) [] (take (length (fields_of self.old.table)) numbers) }
+        ensures whole { IsWhole self.new }
+        ensures numbers { numbers_of self.new ≡ take (length (fields_of self.old.table)) numbers }
+        ensures table { self.new.table ≡ self.old.table }
+    {
+        self.numbers = numbers;
+        self.index = count(self.table);
+        self.number = 0;
+        self.have = 0;
     }
 
     /// Takes the next byte of a head that is begun.
@@ -90,13 +115,5 @@ impl Head {
         self.index = 0;
         self.number = 0;
         self.have = 0;
-    }
-
-    /// Whether the head has a byte.
-    pub fn is_inside(&self) -> bool
-        requires { IsBegun self.now }
-        ensures { IsTrue result ↔ (0 < length (bytes_of self.now)) }
-    {
-        0 < self.index || 0 < self.have
     }
 }

@@ -1,6 +1,6 @@
 // The rows of the frame grammar: how wide each field is, what it may hold, and the number of a bad byte in it.
 
-ghost use Rattle.std.specs.Prelude.{◌≡◌, ◌<◌, ◌≤◌, length, take, slice_index, if◌then◌else◌};
+ghost use Rattle.std.specs.Prelude.{◌≡◌, ◌<◌, ◌≤◌, length, take, slice_index, if◌then◌else◌, nat_eq, ◌||◌};
 ghost use Rattle.frame_codec.specs.Frames.{zero_only, payloads};
 ghost use Rattle.frame_codec.specs.Heads.{field_at, fields_of};
 
@@ -22,11 +22,16 @@ const ZERO: &[Span] = &[Span { low: 0, high: 0 }];
 
 const VERSION: &[Span] = &[Span { low: 1, high: 1 }];
 
-const GENERATE: &[Span] = &[Span { low: 2, high: 2 }];
-
 const OPS: &[Span] = &[Span { low: 1, high: 6 }];
 
+const BIT: &[Span] = &[Span { low: 0, high: 1 }];
+
 const ANY_1: &[Span] = &[Span { low: 0, high: 0xff }];
+
+const ANY_2: &[Span] = &[Span {
+    low: 0,
+    high: 0xffff,
+}];
 
 const ANY_4: &[Span] = &[Span {
     low: 0,
@@ -37,6 +42,8 @@ const ANY_8: &[Span] = &[Span {
     low: 0,
     high: u64::MAX,
 }];
+
+const STRINGS: &[Span] = &[Span { low: 0, high: 4096 }];
 
 const CODES: &[Span] = &[
     Span { low: 0, high: 8 },
@@ -91,7 +98,15 @@ pub fn why(table: Table, index: usize) -> u8
     ensures { result ≡ (field_at table index).why }
 {
     match table {
-        Table::Requests => 9,
+        Table::Requests => match index {
+            0 => 1,
+            1 => 2,
+            2 => 3,
+            3 | 4 => 0,
+            5 => 4,
+            6 => 5,
+            _ => 6,
+        },
         Table::Replies => match index {
             0 => 1,
             1 => 8,
@@ -110,25 +125,25 @@ pub fn spans(table: Table, index: usize, numbers: &[u64; 8]) -> &'static [Span]
     ensures { result.now ≡ (field_at table index).spans (take index numbers.now) }
 {
     match table {
-        Table::Requests => request_spans(index),
+        Table::Requests => request_spans(index, numbers[1]),
         Table::Replies => reply_spans(index, numbers[1], numbers[2]),
     }
 }
 
-// What a field of a request may hold.
-fn request_spans(index: usize) -> &'static [Span]
+// What a field of a request may hold, by the op.
+fn request_spans(index: usize, op: u64) -> &'static [Span]
     requires { index < length (fields_of Table.Requests) }
-    ensures { (before : _) → result.now ≡ (field_at Table.Requests index).spans before }
+    ensures { (before : _) → slice_index before 1 ≡ op → result.now ≡ (field_at Table.Requests index).spans before }
 {
     match index {
         0 => VERSION,
-        1 => GENERATE,
-        2 => ZERO,
-        3 => ZERO,
+        1 => OPS,
+        2 => spans_if(is_either(op, 2, 3), BIT),
+        3 => ANY_1,
         4 => ANY_4,
-        5 => ANY_4,
-        6 => ZERO,
-        _ => ZERO,
+        5 => spans_if(op == 2, ANY_4),
+        6 => spans_if(is_either(op, 1, 2), ANY_2),
+        _ => spans_if(op < 4, STRINGS),
     }
 }
 
@@ -159,6 +174,13 @@ fn payload_spans(op: u64) -> &'static [Span]
         6 => STATUS,
         _ => ZERO,
     }
+}
+
+// Whether the number is one of two.
+fn is_either(number: u64, one: u64, other: u64) -> bool
+    ensures { result ≡ (nat_eq number one || nat_eq number other) }
+{
+    number == one || number == other
 }
 
 fn spans_if(holds: bool, spans: &'static [Span]) -> &'static [Span]

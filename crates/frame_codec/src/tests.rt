@@ -1,170 +1,301 @@
 // Frames and streams written out by hand from the layout.
-ghost use Rattle.std.specs.Prelude.{[], ◌≤◌, length, IfSome};
+ghost use Rattle.std.specs.Prelude.{[], ◌∷◌, ◌≤◌, ◌<◌, length, IfSome};
 ghost use Rattle.frame_codec.specs.Grammar.{IsFramed};
-ghost use Rattle.frame_codec.specs.Frames.{requests};
+ghost use Rattle.frame_codec.specs.Frames.{requests, IsReplyHead};
 
 use crate::{
     Decoder, ReplyDecoder, ReplyHead, ReplyStep, Request, Step, encode_reply, encode_request,
 };
 use std::test::Fail;
 
-// A Generate of 32 bytes with id 1.
-const SHORT: [u8; 16] = [1, 2, 0, 0, 0, 0, 0, 1, 0, 0, 0, 0x20, 0, 0, 0, 0];
-
-// A Generate of 65,537 bytes with id 5.
-const LONG: [u8; 16] = [1, 2, 0, 0, 0, 0, 0, 5, 0, 1, 0, 1, 0, 0, 0, 0];
-
-// Both frames, and a third that stops being one at its second byte.
-const STREAM: [u8; 35] = [
-    1, 2, 0, 0, 0, 0, 0, 1, 0, 0, 0, 0x20, 0, 0, 0, 0, 1, 2, 0, 0, 0, 0, 0, 5, 0, 1, 0, 1, 0, 0, 0,
-    0, 1, 3, 0,
+// One frame of each operation, three of them with a string, and a seventh that stops being one at its second byte.
+const STREAM: [u8; 104] = [
+    1, 1, 0, 3, 0, 0, 0, 1, 0, 0, 0, 0, 0, 192, 0, 2, 97, 98, 1, 2, 1, 4, 0, 0, 0, 2, 0, 1, 0, 1,
+    0, 128, 0, 1, 99, 1, 3, 1, 5, 0, 0, 0, 3, 0, 0, 0, 0, 0, 0, 0, 3, 1, 2, 6, 1, 4, 0, 6, 0, 0, 0,
+    4, 0, 0, 0, 0, 0, 0, 0, 0, 1, 5, 0, 1, 0, 0, 0, 5, 0, 0, 0, 0, 0, 0, 0, 0, 1, 6, 0, 255, 255,
+    255, 255, 255, 0, 0, 0, 0, 0, 0, 0, 0, 1, 7,
 ];
 
-fn generate(id: u32, count: u32) -> Request
-    ensures { IsFramed requests (record { head = result; string = [] }) }
-{
-    Request {
-        op: 2,
-        flags: 0,
-        node: 0,
-        id,
-        count,
-        strength: 0,
-        len: 0,
-    }
-}
+// A request that asks for nothing but its operation.
+const PLAIN: Request = Request {
+    op: 4,
+    flags: 0,
+    node: 6,
+    id: 4,
+    count: 0,
+    strength: 0,
+    len: 0,
+};
 
-// The step at the end of each whole frame of the stream.
-fn whole(frame: usize) -> Step {
-    Step::Whole(if frame == 0 {
-        generate(1, 32)
-    } else {
-        generate(5, 65537)
-    })
-}
+// Asks 65,537 bytes of node 4 with prediction resistance, with a string of one byte.
+const GENERATE: Request = Request {
+    op: 2,
+    flags: 1,
+    node: 4,
+    id: 2,
+    count: 65537,
+    strength: 128,
+    len: 1,
+};
 
-fn bad(offset: u64) -> Step {
-    Step::Bad { offset, why: 9 }
-}
+// What the stream asks, with its strings.
+const ASKED: [(Request, &[u8]); 6] = [
+    (
+        Request {
+            op: 1,
+            flags: 0,
+            node: 3,
+            id: 1,
+            count: 0,
+            strength: 192,
+            len: 2,
+        },
+        b"ab",
+    ),
+    (GENERATE, b"c"),
+    (
+        Request {
+            op: 3,
+            flags: 1,
+            node: 5,
+            id: 3,
+            count: 0,
+            strength: 0,
+            len: 3,
+        },
+        &[1, 2, 6],
+    ),
+    (PLAIN, &[]),
+    (
+        Request {
+            op: 5,
+            node: 1,
+            id: 5,
+            ..PLAIN
+        },
+        &[],
+    ),
+    (
+        Request {
+            op: 6,
+            node: 255,
+            id: u32::MAX,
+            ..PLAIN
+        },
+        &[],
+    ),
+];
 
-// Feeds at most 64 bytes to a decoder that has taken at most 64.
+// Feeds at most 4,200 bytes to a decoder that has taken at most as many.
 fn feed(decoder: &mut Decoder, bytes: &[u8]) -> Option<(usize, Step)>
     ensures { IfSome result (λ r. r.0 ≤ length bytes.now) }
 {
-    if 64 < decoder.offset() || 64 < bytes.len() {
+    if 4200 < decoder.offset() || 4200 < bytes.len() {
         return None;
     }
     Some(decoder.feed(bytes))
 }
 
+// The first step of a new decoder that isn't More over these bytes, in pieces of this size, and after how many it came.
+fn said(bytes: &[u8], size: usize) -> Option<(u64, Step)>
+    requires { 0 < size }
+{
+    let mut decoder = Decoder::fresh();
+    for piece in bytes.chunks(size) {
+        let (_, step) = feed(&mut decoder, piece)?;
+        if step != Step::More {
+            return Some((decoder.offset(), step));
+        }
+    }
+    Some((decoder.offset(), Step::More))
+}
+
+// By the table of the layout: the number of the field that cannot have this byte at this place, and 0 where it can. `before`
+// is the byte before.
+fn wrong(op: u8, place: usize, before: u8, byte: u8) -> u8 {
+    let (allowed, why) = match place {
+        0 => (byte == 1, 1),
+        1 => (1 <= byte && byte <= 6, 2),
+        2 => (byte == 0 || byte == 1 && (op == 2 || op == 3), 3),
+        8..=11 => (byte == 0 || op == 2, 4),
+        12 | 13 => (byte == 0 || op == 1 || op == 2, 5),
+        14 => (byte == 0 || byte <= 16 && op <= 3, 6),
+        15 => (byte == 0 || before < 16 && op <= 3, 6),
+        _ => (true, 0),
+    };
+    if allowed { 0 } else { why }
+}
+
+// The request whose head these bytes are.
+fn request_in(head: &[u8; 16]) -> Request {
+    Request {
+        op: head[1],
+        flags: head[2],
+        node: head[3],
+        id: u32::from_be_bytes([head[4], head[5], head[6], head[7]]),
+        count: u32::from_be_bytes([head[8], head[9], head[10], head[11]]),
+        strength: u16::from_be_bytes([head[12], head[13]]),
+        len: u16::from_be_bytes([head[14], head[15]]),
+    }
+}
+
 #[test]
-fn streams_end_at_the_frame_or_at_the_bad_byte(rt: HostRuntime) {
-    let streams: [(&[u8], usize, Step); 14] = [
-        (&[], 0, Step::More),
-        (&SHORT, 16, Step::Whole(generate(1, 32))),
-        (&LONG, 16, Step::Whole(generate(5, 65537))),
-        (&STREAM, 16, Step::Whole(generate(1, 32))),
-        (&SHORT[..15], 15, Step::More),
-        (&[0, 2], 1, bad(0)),
-        (&[2, 2], 1, bad(0)),
-        (&[1, 3], 2, bad(1)),
-        (&[1, 2, 2, 0], 3, bad(2)),
-        (&[1, 2, 0, 1], 4, bad(3)),
-        (
-            &[1, 2, 0, 0, 255, 255, 255, 255, 255, 255, 255, 255, 1],
-            13,
-            bad(12),
-        ),
-        (
-            &[1, 2, 0, 0, 0, 0, 0, 1, 0, 0, 0, 0x20, 0, 1, 0, 0],
-            14,
-            bad(13),
-        ),
-        (
-            &[1, 2, 0, 0, 0, 0, 0, 1, 0, 0, 0, 0x20, 0, 0, 1, 0],
-            15,
-            bad(14),
-        ),
-        (
-            &[1, 2, 0, 0, 0, 0, 0, 1, 0, 0, 0, 0x20, 0, 0, 0, 5],
-            16,
-            bad(15),
-        ),
-    ];
-    for (bytes, taken, step) in streams {
-        let mut decoder = Decoder::fresh();
-        assert_eq!(rt; feed(&mut decoder, bytes), Some((taken, step)));
-        assert_eq!(rt; decoder.offset(), taken as u64);
-        assert_eq!(rt; decoder.string().len(), 0);
+fn each_byte_of_a_head_is_told_right_or_wrong(rt: HostRuntime) {
+    for op in 1..7 {
+        for place in 0..16 {
+            for high in [0, 16] {
+                for byte in 0..256u16 {
+                    let mut head = [1, op, 0, 7, 0, 0, 0, 9, 0, 0, 0, 0, 0, 0, 0, 0];
+                    if op < 4 && place == 15 {
+                        head[14] = high;
+                    }
+                    let byte = byte as u8;
+                    let why = wrong(op, place, head[14], byte);
+                    head[place] = byte;
+                    let step = if why != 0 {
+                        let offset = place as u64;
+                        (offset + 1, Step::Bad { offset, why })
+                    } else if head[14] != 0 || head[15] != 0 {
+                        (16, Step::More)
+                    } else {
+                        (16, Step::Whole(request_in(&head)))
+                    };
+                    assert_eq!(rt; said(&head, 16), Some(step));
+                    assert_eq!(rt; said(&head, 1), Some(step));
+                }
+            }
+        }
     }
 }
 
 #[test]
 fn a_stream_gives_the_same_however_it_is_cut(rt: HostRuntime) {
-    for cut in 0..=STREAM.len() {
+    for size in 1..=STREAM.len() {
         let mut decoder = Decoder::fresh();
-        let mut steps = 0;
-        'pieces: for piece in [&STREAM[..cut], &STREAM[cut..]] {
-            let mut bytes = piece;
-            for _ in 0..3 {
-                let Some((taken, step)) = feed(&mut decoder, bytes) else {
-                    break 'pieces;
-                };
-                if step == Step::More {
+        let mut asked = ASKED.iter();
+        let mut bad = None;
+        for piece in STREAM.chunks(size) {
+            let mut rest = piece;
+            for _ in 0..8 {
+                let Some((taken, step)) = feed(&mut decoder, rest) else {
                     break;
-                }
+                };
+                let Step::Whole(request) = step else {
+                    if step != Step::More {
+                        bad = Some(step);
+                    }
+                    break;
+                };
                 assert_eq!(rt;
-                    step,
-                    if steps < 2 { whole(steps) } else { bad(33) },
-                    "cut at {cut}"
+                    Some(&(request, decoder.string())),
+                    asked.next(),
+                    "in pieces of {size}"
                 );
-                assert_eq!(rt; decoder.inside(), steps == 2);
-                assert!(rt; steps < 3);
-                steps += 1;
-                if steps == 3 {
-                    break 'pieces;
-                }
-                bytes = &bytes[taken..];
+                rest = &rest[taken..];
             }
         }
-        assert_eq!(rt; steps, 3, "cut at {cut}");
-    }
-    let mut decoder = Decoder::fresh();
-    for (i, byte) in STREAM[..34].iter().enumerate() {
-        assert!(rt; decoder.offset() < 64);
-        let step = match i {
-            15 => whole(0),
-            31 => whole(1),
-            33 => bad(33),
-            _ => Step::More,
+        assert_eq!(rt; asked.next(), None);
+        let wrong = Step::Bad {
+            offset: 103,
+            why: 2,
         };
-        assert_eq!(rt; decoder.push(*byte), step, "at {i}");
+        assert_eq!(rt; bad, Some(wrong));
+        assert_eq!(rt; decoder.inside(), true);
+        assert_eq!(rt; decoder.string().len(), 0);
     }
 }
 
 #[test]
-fn frames_are_written_and_read(rt: HostRuntime) {
-    let mut frame = [0; 16];
-    assert_eq!(rt; encode_request(&generate(1, 32), &[], &mut frame), 16);
-    assert_eq!(rt; frame, SHORT);
-    let malformed = ReplyHead {
-        code: 255,
-        op: 0,
-        node: 0,
-        id: 0,
-        a: 1,
-        b: 9,
-        len: 0,
-    };
-    let mut text = [0; 28];
-    encode_reply(&malformed, &mut text);
+fn the_longest_string_is_read(rt: HostRuntime) {
+    let mut frame = [5u8; 16 + 4096];
+    let head = [1, 3, 0, 7, 0, 0, 0, 9, 0, 0, 0, 0, 0, 0, 16, 0];
+    frame[..16].copy_from_slice(&head);
+    let mut decoder = Decoder::fresh();
+    let whole = Step::Whole(request_in(&head));
     assert_eq!(rt;
-        text,
-        [
-            1, 255, 0, 0, 0, 0, 0, 0, 0, 0, 0, 0, 0, 0, 0, 1, 0, 0, 0, 0, 0, 0, 0, 9, 0, 0, 0, 0,
-        ]
+        feed(&mut decoder, &frame[..2000]),
+        Some((2000, Step::More))
     );
-    let done = ReplyHead {
+    assert_eq!(rt; feed(&mut decoder, &frame[2000..]), Some((2112, whole)));
+    assert_eq!(rt; decoder.string(), &frame[16..]);
+    assert_eq!(rt; decoder.inside(), false);
+}
+
+// The second request of the stream, as what its frame needs.
+fn generate() -> Request
+    ensures { IsFramed requests (record { head = result; string = 99 ∷ [] }) }
+{
+    GENERATE
+}
+
+// The step at the last of these bytes, at most 29, of a stream of replies.
+fn replied(bytes: &[u8]) -> ReplyStep {
+    let mut decoder = ReplyDecoder::fresh();
+    let mut step = ReplyStep::More;
+    if 29 < bytes.len() {
+        return step;
+    }
+    for byte in bytes {
+        step = decoder.push(*byte);
+    }
+    step
+}
+
+// By the table of the layout of replies, as `wrong`.
+fn wrong_reply(code: u8, op: u8, place: usize, before: u8, byte: u8) -> u8 {
+    let zero = byte == 0;
+    let (allowed, why) = match place {
+        0 => (byte == 1, 1),
+        1 => (byte <= 14 && byte != 9 || byte == 255, 8),
+        2 if code == 255 => (zero, 2),
+        2 => (1 <= byte && byte <= 6, 2),
+        3 => (zero || code != 255, 4),
+        4..=7 => (zero || code != 255, 5),
+        8..=23 => (zero || code != 0, 7),
+        25 => (zero || code == 0 && op == 2 && byte == 1, 6),
+        26 => (zero || code == 0 && op == 2 && before == 0, 6),
+        27 if code == 0 && op == 6 => (byte == 25, 6),
+        27 => (zero || code == 0 && op == 2 && before == 0, 6),
+        _ => (zero, 6),
+    };
+    if allowed { 0 } else { why }
+}
+
+#[test]
+fn each_byte_of_a_reply_is_told_right_or_wrong(rt: HostRuntime) {
+    for code in [0, 1, 2, 3, 4, 5, 6, 7, 8, 10, 11, 12, 13, 14, 255] {
+        for (op, high) in [(1, 0), (2, 0), (2, 1), (6, 0)] {
+            let mut head = [0; 28];
+            head[0] = 1;
+            head[1] = code;
+            head[2] = if code == 255 { 0 } else { op };
+            head[25] = if code == 0 { high } else { 0 };
+            for place in 0..28 {
+                for byte in 0..256u16 {
+                    let byte = byte as u8;
+                    let mut text = head;
+                    text[place] = byte;
+                    let why = wrong_reply(code, op, place, head[25], byte);
+                    let step = replied(text.get(..place + 1).unwrap_or(&[]));
+                    if why != 0 {
+                        let offset = place as u64;
+                        assert_eq!(rt; step, ReplyStep::Bad { offset, why });
+                    } else if place < 27 {
+                        assert_eq!(rt; step, ReplyStep::More);
+                    } else {
+                        assert!(rt; matches!(step, ReplyStep::Head(_)));
+                    }
+                }
+            }
+        }
+    }
+}
+
+// The head of a Done reply to a Generate of so many bytes, at most 65,536, with id 5.
+fn done() -> ReplyHead
+    ensures { IsReplyHead result }
+{
+    ReplyHead {
         code: 0,
         op: 2,
         node: 0,
@@ -172,41 +303,24 @@ fn frames_are_written_and_read(rt: HostRuntime) {
         a: 0,
         b: 0,
         len: 65536,
-    };
-    encode_reply(&done, &mut text);
+    }
+}
+
+#[test]
+fn frames_are_written_and_read(rt: HostRuntime) {
+    let mut frame = [0; 17];
+    assert_eq!(rt; encode_request(&generate(), &[99], &mut frame), 17);
+    assert_eq!(rt; frame[..], STREAM[18..35]);
+    let mut text = [0; 28];
+    encode_reply(&done(), &mut text);
     assert_eq!(rt;
         text,
         [
             1, 0, 2, 0, 0, 0, 0, 5, 0, 0, 0, 0, 0, 0, 0, 0, 0, 0, 0, 0, 0, 0, 0, 0, 0, 1, 0, 0,
         ]
     );
-    let too_long = [
-        1, 2, 2, 0, 0, 0, 0, 5, 0, 0, 0, 0, 0, 1, 0, 1, 0, 0, 0, 0, 0, 1, 0, 0, 0, 0, 0, 0,
-    ];
-    let wrong_status = [
-        1, 0, 6, 0, 0, 0, 0, 2, 0, 0, 0, 0, 0, 0, 0, 0, 0, 0, 0, 0, 0, 0, 0, 0, 0, 0, 0, 24,
-    ];
-    let refused = ReplyHead {
-        code: 2,
-        a: 65537,
-        b: 65536,
-        len: 0,
-        ..done
-    };
-    for (text, last) in [
-        (&text, ReplyStep::Head(done)),
-        (&too_long, ReplyStep::Head(refused)),
-        (&wrong_status, ReplyStep::Bad { offset: 27, why: 6 }),
-    ] {
-        let mut decoder = ReplyDecoder::fresh();
-        let mut step = ReplyStep::More;
-        for byte in text {
-            assert_eq!(rt; step, ReplyStep::More);
-            step = decoder.push(*byte);
-        }
-        assert_eq!(rt; step, last);
-        if last == ReplyStep::Head(done) {
-            assert_eq!(rt; decoder.push(7), ReplyStep::Payload(7));
-        }
-    }
+    assert_eq!(rt; replied(&text), ReplyStep::Head(done()));
+    let mut longer = [7; 29];
+    longer[..28].copy_from_slice(&text);
+    assert_eq!(rt; replied(&longer), ReplyStep::Payload(7));
 }
