@@ -21,16 +21,16 @@ use Rattle.tree_rules.specs.Slots.{no_node, node_row}
 use Rattle.tree_core.specs.Solo.{seed_in}
 use Rattle.tree_config.specs.Tree.{Tree, Plan, stock_tree}
 use Rattle.tree_config.proofs.Once.{plan_once, plan_in_range}
-use Rattle.rbgtree.specs.declared.ends.End.{End}
-use Rattle.rbgtree.specs.declared.ends.End.TheVariants as ends
+use Rattle.session_core.specs.declared.end.End.{End}
+use Rattle.session_core.specs.declared.end.End.TheVariants as ends
 use Rattle.rbgtree.specs.declared.status.Status.{Status}
 use Rattle.rbgtree.specs.declared.status.Status.TheVariants.{Done, Usage, Config, Malformed, Cut, ReadFault, WriteFault, OpenFault, Memory, Quota, SeedShort, SourceRefused}
-use Rattle.rbgtree.specs.Answers.{Answered}
+use Rattle.session_core.specs.Answers.{Answered, AreRight}
+use Rattle.session_core.specs.Session.{IsHeld}
 use Rattle.rbgtree.specs.Files.{Entries, IsWholeFile}
 use Rattle.rbgtree.specs.Check.{HasNoPlan, HasChecked}
 use Rattle.rbgtree.specs.Commands.{IsSeedCommand, IsAnswerCommand, IsCheckCommand}
 use Rattle.rbgtree.specs.Statuses.{status_of}
-use Rattle.rbgtree.specs.Session.{Session}
 use Rattle.rbgtree.specs.Run.{Outside, Served, HasNoSeeds, IsShort, RanOver, RanPlan, RanSeed, RanAnswer, RanCheck, Ran, HasStatusCause}
 use Rattle.rbgtree.specs.Seeds.{AreSeeds, IsFront, IsSeedOf, file_in, planned_file}
 use Rattle.rbgtree.specs.Complete.{NoneRose, IsToldFile, HasLongFile, CanBeServed, SeedCanBeServed, AnswerCanBeServed, CanBePassed, IsComplete}
@@ -46,7 +46,7 @@ taken_front (Some xs) (Some ys) taken script is took = (ys, refl, cc)
 -- the end of a session over whole frames, fewer than there may be, in which no count rose
 pub read_whole : (f : Opening) (o : List Entry) (max : ℕ) (end : End) (before now : Outside) (script : List ℕ) (asked : List Asked)
     → before.left ≡ Some script → IsScript script asked [] → length asked < max → NoneRose before now → HasStatusCause before now (status_of end)
-    → Session f o max end before.left now.left before.out now.out → status_of end ≡ Done
+    → IsHeld (AreRight 1 f o []) max end before.left now.left before.out now.out → status_of end ≡ Done
 read_whole f o max (ends.Read frames) before now script asked is whole few calm cause session = refl
 read_whole f o max (ends.ReadFault count) before now script asked is whole few calm cause session = absurd (calm.input cause.0)
 read_whole f o max (ends.WriteFault count) before now script asked is whole few calm cause session = absurd (calm.output cause.0)

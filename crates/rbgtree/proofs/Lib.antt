@@ -1,12 +1,6 @@
 pub mod Found
 pub mod FileFronts
 pub mod NodeSeeds
-pub mod Feeding
-pub mod Replies
-pub mod Heads
-pub mod GoingOn
-pub mod Pieces
-pub mod Whole
 pub mod Served
 pub mod Checking
 pub mod Tries

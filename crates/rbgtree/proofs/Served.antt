@@ -1,21 +1,23 @@
 -- A tree that was opened, a session's end as a status, and how the program ends without one.
-use Rattle.std.proofs.Common.{◌≡◌, ◌∷◌, ◌∙◌, ℕ, List, [], length, map, refl, sym, ap, inl, inr}
-use Rattle.std.specs.Prelude.{Option, Some, None, Err}
+use Rattle.std.proofs.Common.{◌≡◌, ◌∷◌, ◌∙◌, ℕ, List, [], length, map, refl, sym, ap, subst}
+use Rattle.std.specs.Prelude.{Option, Err}
 use Rattle.tree_config.specs.Tree.{Tree}
 use Rattle.tree_rules.specs.History.{Entry, Opening}
 use Rattle.tree_rules.specs.Openings.{IsHistory}
 use Rattle.tree_core.specs.Solo.{AreLong, IsCause, OpensAs, SoloView, StandAfter}
 use Rattle.tree_core.specs.declared.refusal.OpenRefusal.TheVariants as refusals
+use Rattle.session_core.specs.Answers.{Answered, AreRight}
+use Rattle.session_core.specs.Session.{AreMade, HasReadCause, HasWriteCause, IsHeld}
+use Rattle.session_core.proofs.Weaker.{held-weaker}
 use Rattle.rbgtree.specs.Files.{Entries}
 use Rattle.rbgtree.specs.Recordings.{Recording, Recordings, recording_of}
 use Rattle.rbgtree.specs.Check.{HasNoPlan, HasOpenCause, HasPlanCause, OpensAll, sample_names, status_without}
 use Rattle.rbgtree.specs.Run.{Outside, HasNoTree, HasStatusCause, IsShort, IsUntouched, OpensTree, RanOver, Served}
-use Rattle.rbgtree.specs.Session.{HasReadCause, HasWriteCause, Session}
 use Rattle.rbgtree.specs.Statuses.{status_of}
 use Rattle.rbgtree.specs.declared.check.NotOpened.{NotOpened}
 use Rattle.rbgtree.specs.declared.check.NotOpened.TheVariants.{Fault, OutOfMemory}
-use Rattle.rbgtree.specs.declared.ends.End.{End}
-use Rattle.rbgtree.specs.declared.ends.End.TheVariants.{Read, Bad, Cut, ReadFault, WriteFault, Quota}
+use Rattle.session_core.specs.declared.end.End.{End}
+use Rattle.session_core.specs.declared.end.End.TheVariants.{Read, Bad, Cut, ReadFault, WriteFault, Quota}
 use Rattle.rbgtree.specs.declared.status.Status.{Status}
 use Rattle.rbgtree.specs.declared.status.Status.TheVariants as statuses
 
@@ -47,15 +49,19 @@ module _ {S : Type 0} (told : S → Option (List ℕ)) (faults : S → ℕ) wher
     calls = is.calls;
   }
 
-  pub served : (p : Tree) (seeds : List (List ℕ)) (before now : Outside) (t : SoloView S) (end : End) → OpensTree told faults p seeds before.recordings now.recordings t
-      → ((f : Opening) (o : List Entry) → IsHistory f o [] → f.plan ≡ t.plan → StandAfter told faults f o [] t.nodes t.sources → Session f o 1048576 end before.left now.left before.out now.out)
+  pub served : (p : Tree) (seeds : List (List ℕ)) (before now : Outside) (t t' : SoloView S) (max : ℕ) (end : End) → OpensTree told faults p seeds before.recordings now.recordings t → max ≡ 1048576
+      → ((f : Opening) (o h : List Entry) → IsHistory f o h → f.plan ≡ t.plan → StandAfter told faults f o h t.nodes t.sources
+      → IsHeld (AreMade told faults f o h t.calls t') max end before.left now.left before.out now.out)
       → Served p seeds before now end
-  served p seeds before now t end tree table = record {
+  served p seeds before now t t' max end tree is table = record {
     f = tree.f;
     o = tree.o;
     over = tree.over;
     opening = tree.opening;
-    session = table tree.f tree.o (record { opening = tree.opening; legal = tt }) tree.plan tree.stand;
+    session = held-weaker (AreMade told faults tree.f tree.o [] t.calls t') (AreRight 1 tree.f tree.o []) 1048576 end before.left now.left before.out now.out
+        (λ (es : List Answered) (made : AreMade told faults tree.f tree.o [] t.calls t' es). made.right)
+        (subst (λ (m : ℕ). IsHeld (AreMade told faults tree.f tree.o [] t.calls t') m end before.left now.left before.out now.out) is
+        (table tree.f tree.o [] (record { opening = tree.opening; legal = tt }) tree.plan tree.stand));
   }
 
   module _ (p : Tree) (seeds : List (List ℕ)) (before now : Outside) where

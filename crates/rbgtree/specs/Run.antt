@@ -7,6 +7,9 @@ use Rattle.tree_config.specs.Tree.{Tree, stock_tree}
 use Rattle.tree_config.specs.declared.plan.NodePlan.{NodePlan}
 use Rattle.tree_rules.specs.History.{Entry, Opening}
 use Rattle.tree_rules.specs.Openings.{IsOpening}
+use Rattle.session_core.specs.Answers.{AreRight}
+use Rattle.session_core.specs.Session.{IsHeld}
+use Rattle.session_core.specs.declared.end.End.{End}
 use Rattle.tree_core.specs.Solo.{AreLong, IsCause, SoloView, StandAfter}
 use Rattle.tree_core.specs.declared.refusal.OpenRefusal.TheVariants as refusals
 use Rattle.rbgtree.specs.Files.{Entries}
@@ -14,11 +17,9 @@ use Rattle.rbgtree.specs.Recordings.{Recording, Recordings}
 use Rattle.rbgtree.specs.Check.{IsPlanOf, HasNoPlan, HasChecked, HasNotOpened, OpensAll, sample_names}
 use Rattle.rbgtree.specs.Commands.{IsSeedCommand, IsAnswerCommand, IsCheckCommand, IsNoCommand}
 use Rattle.rbgtree.specs.Seeds.{AreSeeds, IsOver, planned_file}
-use Rattle.rbgtree.specs.Session.{Session}
 use Rattle.rbgtree.specs.Statuses.{status_of}
 use Rattle.rbgtree.specs.declared.check.NotOpened.{NotOpened}
 use Rattle.rbgtree.specs.declared.check.NotOpened.TheVariants.{Fault, OutOfMemory}
-use Rattle.rbgtree.specs.declared.ends.End.{End}
 use Rattle.rbgtree.specs.declared.status.Status.{Status}
 use Rattle.rbgtree.specs.declared.status.Status.TheVariants.{Usage, Memory, ReadFault, WriteFault, OpenFault, SeedShort}
 
@@ -50,14 +51,15 @@ pub record IsUntouched (before now : Outside) : Type 0 where
   pub left : now.left ≡ before.left
   pub out : now.out ≡ before.out
 
--- a tree of the plan was opened over these seeds and over the samples that the plan names, and one session of at most 1,048,576 frames
--- was held on it, from its opening calls on
+-- A tree of the plan was opened over these seeds and over the samples that the plan names, and one session of at most 1,048,576 frames
+-- was held on it. Its replies are those of entries by caller 1, one for each frame that was read, in order, which behind the opening calls
+-- make a legal history, use no sample twice and are quiet after alarms.
 pub record Served (p : Tree) (seeds : List (List ℕ)) (before now : Outside) (end : End) : Type 0 where
   pub f : Opening
   pub o : List Entry
   pub over : IsOver before.recordings now.recordings p seeds f
   pub opening : IsOpening f o
-  pub session : Session f o 1048576 end before.left now.left before.out now.out
+  pub session : IsHeld (AreRight 1 f o []) 1048576 end before.left now.left before.out now.out
 
 -- the samples that the plan names were opened one after another
 abbrev pub HasOpened : Tree → Option Recordings → Option Recordings → Type 0

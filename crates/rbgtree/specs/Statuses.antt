@@ -4,8 +4,8 @@ use Rattle.std.specs.Prelude.{ℕ, true, false, List, [], ◌++◌, codes, decim
 use Rattle.tree_config.specs.Names.{field_text, place_text}
 use Rattle.tree_config.specs.declared.fault.ConfigFault.{ConfigFault}
 use Rattle.tree_config.specs.declared.fault.ConfigFault.TheVariants.{TooLarge, BadToml, BadField, TooMany, NoSuchParent, Cycle, TooDeep, StrengthRises}
-use Rattle.rbgtree.specs.declared.ends.End.{End}
-use Rattle.rbgtree.specs.declared.ends.End.TheVariants as ends
+use Rattle.session_core.specs.declared.end.End.{End}
+use Rattle.session_core.specs.declared.end.End.TheVariants as ends
 use Rattle.rbgtree.specs.declared.status.Status.{Status}
 use Rattle.rbgtree.specs.declared.status.Status.TheVariants.{Done, Usage, Config, Malformed, Cut, ReadFault, WriteFault, OpenFault, Memory, Quota, SeedShort, SourceRefused}
 

@@ -1,5 +1,5 @@
-// Runs of `answer` over configurations, seed files and recorded samples in memory: what node 0 answers, and how the program ends.
-use crate::check_tests::{RAMP, ROOT, Ramp, SOURCE, samples_of};
+// Runs of `answer` over configurations, seed files and recorded samples in memory: what the frames are answered, and how the program ends.
+use crate::check_tests::{CHILD, RAMP, ROOT, Ramp, SOURCE, samples_of};
 use crate::memory_world::MemWorld;
 use crate::status::Status;
 use crate::top::run;
@@ -10,24 +10,101 @@ use tree_config::ConfigFault;
 
 const ALL: &str = "version = 1\nopening = \"all\"\n";
 
+const NONE: &str = "version = 1\nopening = \"none\"\n";
+
+// An RBG3(XOR) and an RBG3(RS) on source 0, an RBG1, and a child of it.
+const MIXED_NODES: &str =
+    "[[node]]\nkind = \"rbg3-xor\"\ndrbg = \"hmac-sha-256\"\ninterval = 1000\nsource = 0\n[[node]]\nkind = \"rbg3-rs\"\ndrbg = \"hmac-sha-256\"\ninterval = 1000\nsource = 0\n[[node]]\nkind = \"rbg1\"\ndrbg = \"hmac-sha-256\"\ninterval = 2\nseed = \"s\"\n[[node]]\nkind = \"child\"\ndrbg = \"ctr-aes-128\"\ninterval = 10\nparent = 2\n";
+
 const RBG1: &str =
     "[[node]]\nkind = \"rbg1\"\ndrbg = \"hmac-sha-256\"\ninterval = 1\nseed = \"s\"\n";
 
 const WEAK_RBG1: &str =
     "[[node]]\nkind = \"rbg1\"\ndrbg = \"ctr-aes-128\"\ninterval = 1\nseed = \"t\"\n";
 
-/// Generates of 32 bytes on node 0, with the numbers 3, 4, 5 and 6.
-const THREE: &str =
-    "010200000000000300000020000000000102000000000004000000200000000001020000000000050000002000000000";
+// An opening by hand, seven calls, an alarm at sample 1153, and a start after it.
+const ALARM: &[&str] = &[
+    "01050000000000010000000000000000",
+    "01010000000000020000000000000000",
+    "01010001000000030000000000000000",
+    "01020001000000040000002000000000",
+    "01020001000000050000002000000000",
+    "01020001000000060000002000000000",
+    "01060000000000070000000000000000",
+    "01060001000000080000000000000000",
+    "01020101000000070000002000000000",
+    "01060000000000090000000000000000",
+    "010600010000000a0000000000000000",
+    "010200010000000b0000002000000000",
+    "01020101000000070000002000000000",
+    "010500000000000c0000000000000000",
+    "01020101000000070000002000000000",
+    "010600000000000d0000000000000000",
+    "010600010000000e0000000000000000",
+];
 
-const FOURTH: &str = "01020000000000060000002000000000";
+// Their replies, computed by an independent implementation.
+const ALARM_REPLIES: &[&str] = &[
+    "01000500000000010000000000000000000000000000000000000000",
+    "01000100000000020000000000000000000000000000000000000000",
+    "01000101000000030000000000000000000000000000000000000000",
+    "01000201000000040000000000000000000000000000000000000020fd5a91a10f7a9a53efa8796b59e483449e2d4cb101fd06b240b1c6dfac9743f9",
+    "01000201000000050000000000000000000000000000000000000020fcdfd76d1470892439a9c61214493fd2112c9372c37cc1ed35a39d207e24cfca",
+    "010002010000000600000000000000000000000000000000000000206734ded4505784a2ff810debed5055d17e263f05ba6fb713aa2c625e0b04583a",
+    "0100060000000007000000000000000000000000000000000000001901000000000000000200000000000000020000000000000003",
+    "0100060100000008000000000000000000000000000000000000001901000000000000000200000000000000030000000000000003",
+    "010d0201000000070000000000000481000000000000000100000000",
+    "0100060000000009000000000000000000000000000000000000001901000000000000000200000000000000020000000000000003",
+    "010006010000000a000000000000000000000000000000000000001901000000000000000200000000000000030000000000000003",
+    "010002010000000b0000000000000000000000000000000000000020c5e2dea6403ebf72687b382a006edeb8fefff4ddbc476db57f55d6f2da8160f5",
+    "010b0201000000070000000000000001000000000000048100000000",
+    "010005000000000c0000000000000000000000000000000000000000",
+    "0100020100000007000000000000000000000000000000000000002020633ef860c185078ca908b48a0b4ff712edee5f6b5d80aef3514008e9665eb6",
+    "010006000000000d000000000000000000000000000000000000001901000000000000000200000000000000030000000000000005",
+    "010006010000000e000000000000000000000000000000000000001901000000000000000200000000000000050000000000000005",
+];
 
-/// The replies to the first two and to the third, computed by an independent implementation.
-const TWO_REPLIES: &str =
-    "01000200000000030000000000000000000000000000000000000020db6c2b782142d22684fec1ca226d31240d8e70c98d0d3929a2e02c7bf1b77f4d010002000000000400000000000000000000000000000000000000209c82d4fe2570d15a9318870b75cefc2bd403601330b0f1145241e0d5c03f1909";
+// Generates, a node that is exhausted, and refusals of each kind.
+const MIXED: &[&str] = &[
+    "01020000000000010000002800000000",
+    "01020001000000020000002800000000",
+    "01020000000000030000100100000000",
+    "01020002000000040000002000000000",
+    "01020002000000050000002000000000",
+    "01030002000000060000000000000000",
+    "01020103000000070000001000c00000",
+    "01020103000000080000001000000000",
+    "01030003000000090000000000000000",
+    "010100030000000a0000000000000000",
+    "010200090000000b0000001000000000",
+    "010600020000000c0000000000000000",
+    "010400020000000d0000000000000000",
+    "010600020000000e0000000000000000",
+    "010100020000000f0000000000000000",
+    "01020003000000100000001000000000",
+    "01030003000000110000000000000000",
+];
 
-const THIRD_REPLY: &str =
-    "010002000000000500000000000000000000000000000000000000208bc2302a823c2ce2836bf0a8a2fba00183bc0c8990f836057d465820e6a9b71f";
+// Their replies, computed so too.
+const MIXED_REPLIES: &[&str] = &[
+    "0100020000000001000000000000000000000000000000000000002804067e877dd5dce35a417b511365baa997b76d70f1a2c4e3b1bbb572d023c7d4af47f7e807699bb3",
+    "0100020100000002000000000000000000000000000000000000002838d3e73dd9342a93952ce3ead2d2f5a65a65043cf9bc0abac84ee6c70350c2c048351f9e47937642",
+    "01020200000000030000000000001001000000000000100000000000",
+    "0100020200000004000000000000000000000000000000000000002008767656d3e9669eb668d1e1f5b80d27bb1aee12ff719eeb83e3dce006718c16",
+    "01080202000000050000000000000002000000000000000300000000",
+    "01060302000000060000000000000002000000000000000000000000",
+    "010502030000000700000000000000c0000000000000008000000000",
+    "01070203000000080000000000000002000000000000000000000000",
+    "01080303000000090000000000000002000000000000000300000000",
+    "010301030000000a0000000000000003000000000000000000000000",
+    "010102090000000b0000000000000009000000000000000400000000",
+    "010006020000000c000000000000000000000000000000000000001901000000000000000300000000000000010000000000000002",
+    "010004020000000d0000000000000000000000000000000000000000",
+    "010006020000000e000000000000000000000000000000000000001900000000000000000000000000000000010000000000000002",
+    "010601020000000f0000000000000002000000000000000000000000",
+    "010002030000001000000000000000000000000000000000000000109228419119099a3cb89b850f4b8f8250",
+    "01040303000000110000000000000002000000000000000000000000",
+];
 
 /// What a run is over: the parts of the configuration, how many bytes the seed files `s` and `t` have, which are 00, 01 and so on
 /// (0: there is no such file), and the samples `ramp`.
@@ -77,7 +154,7 @@ fn check(
     }
     let mut world = MemWorld::new(files_of(rt, setting)?, samples, Vec::new(alloc));
     let mut input = MemSource::new(joined(rt, frames)?, 4096, Vec::new(alloc));
-    let mut output = MemSink::new(vec![in alloc; 0u8; 1000]?, Vec::new(alloc));
+    let mut output = MemSink::new(vec![in alloc; 0u8; 2000]?, Vec::new(alloc));
     let mut words = Vec::new(alloc);
     for word in ["answer", "c"] {
         words.push(String::from_str(alloc, word)?)?;
@@ -101,77 +178,24 @@ fn joined(rt: &(impl Abort + AllocGlobal), texts: &[&str]) -> Result<Vec<u8>, Fa
 }
 
 #[test]
-fn a_node_on_a_source_answers(rt: HostRuntime) -> Result<(), Fail> {
-    let parts = [ALL, SOURCE, ROOT];
-    let one = Setting {
-        parts: &parts,
-        seeds: [0, 0],
-        ramps: &[RAMP],
-    };
-    check(
-        &rt,
-        &one,
-        &[THREE],
-        Status::Done,
-        &[TWO_REPLIES, THIRD_REPLY],
-    )?;
-    check(&rt, &one, &[], Status::Done, &[])?;
-    check(&rt, &one, &["010200"], Status::Cut { offset: 3 }, &[])
-}
-
-#[test]
-fn an_alarm_stops_the_node_that_is_due(rt: HostRuntime) -> Result<(), Fail> {
+fn trees_answer_each_operation(rt: HostRuntime) -> Result<(), Fail> {
     let alarmed = Ramp {
-        nines: 1110,
+        len: 4000,
+        nines: 1150,
         ..RAMP
     };
-    let parts = [ALL, SOURCE, ROOT];
-    let during = Setting {
-        parts: &parts,
+    let by_hand = Setting {
+        parts: &[NONE, SOURCE, ROOT, CHILD],
         seeds: [0, 0],
         ramps: &[alarmed],
     };
-    // The repetition count test at sample 1113, and then a source in error by it.
-    let failed = "010d0200000000050000000000000459000000000000000100000000";
-    let in_error = "010b0200000000060000000000000001000000000000045900000000";
-    check(
-        &rt,
-        &during,
-        &[THREE, FOURTH],
-        Status::Done,
-        &[TWO_REPLIES, failed, in_error],
-    )?;
-    // In the start-up: the opening calls leave node 0 as it was.
-    let early = Ramp {
-        nines: 1020,
-        ..RAMP
-    };
-    let starting = Setting {
-        parts: &parts,
-        seeds: [0, 0],
-        ramps: &[early],
-    };
-    let not_instantiated = "01040200000000060000000000000000000000000000000000000000";
-    check(&rt, &starting, &[FOURTH], Status::Done, &[not_instantiated])
-}
-
-#[test]
-fn an_rbg1_is_exhausted(rt: HostRuntime) -> Result<(), Fail> {
-    let seeded = Setting {
-        parts: &[ALL, RBG1],
+    check(&rt, &by_hand, ALARM, Status::Done, ALARM_REPLIES)?;
+    let mixed = Setting {
+        parts: &[ALL, SOURCE, MIXED_NODES],
         seeds: [48, 0],
-        ramps: &[],
+        ramps: &[RAMP],
     };
-    let first =
-        "010002000000000600000000000000000000000000000000000000200ffb80875a3e9022a4941a3fa1b0d3611df14e1cf651a73ce9229b9f3ad56887";
-    let exhausted = "01080200000000060000000000000000000000000000000200000000";
-    check(
-        &rt,
-        &seeded,
-        &[FOURTH, FOURTH],
-        Status::Done,
-        &[first, exhausted],
-    )
+    check(&rt, &mixed, MIXED, Status::Done, MIXED_REPLIES)
 }
 
 #[test]
@@ -210,11 +234,5 @@ fn seeds_and_samples_are_looked_at_in_order(rt: HostRuntime) -> Result<(), Fail>
         seeds: [0, 0],
         ramps: &[],
     };
-    check(
-        &rt,
-        &none,
-        &[FOURTH],
-        Status::Config(ConfigFault::BadToml),
-        &[],
-    )
+    check(&rt, &none, &[], Status::Config(ConfigFault::BadToml), &[])
 }

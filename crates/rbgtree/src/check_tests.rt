@@ -14,7 +14,7 @@ pub(crate) const SOURCE: &str =
 pub(crate) const ROOT: &str =
     "[[node]]\nkind = \"rbg2\"\ndrbg = \"hmac-sha-256\"\ninterval = 2\nsource = 0\n";
 
-const CHILD: &str =
+pub(crate) const CHILD: &str =
     "[[node]]\nkind = \"child\"\ndrbg = \"ctr-aes-256\"\ninterval = 1\nparent = 0\n";
 
 const NODE_LINES: &str =

@@ -2,18 +2,13 @@
 //!
 //! - `top`: what each command does, `run`;
 //! - `files` and `seeds`: what is read from files, the plan and its nodes' seeds;
-//! - `serve`: a tree over them, and one session on it;
+//! - `serve`: a tree over them, and one session of frames on it;
 //! - `check`: one start of each source of a configuration, and `printed`, the lines that are printed of it;
-//! - `session`: one session, in which frames are read, answered and written one after another;
-//! - `answers`: the reply frame to one request;
-//! - `ends`: how a session ends;
 //! - `status` and `lines`: how the program ends, as a number and as a line;
 //! - `world`: what is asked of the outside beside input and output, `memory_world` and `host` what meets it.
 #![tactic(auto)]
 
-mod answers;
 mod check;
-mod ends;
 mod files;
 mod host;
 mod lines;
@@ -21,7 +16,6 @@ mod memory_world;
 mod printed;
 mod seeds;
 mod serve;
-mod session;
 mod status;
 mod top;
 mod world;

@@ -4,31 +4,18 @@ ghost use Rattle.tree_core.specs.Solo.{AreLong};
 ghost use Rattle.rbgtree.specs.Check.{HasOpenCause};
 ghost use Rattle.rbgtree.specs.Run.{outside_of, OpensTree, HasNoTree, RanOver, HasStatusCause};
 
-use crate::answers::{HEAD_LEN, MAX_PAYLOAD};
 use crate::check::{NotOpened, not_opened, open_all};
 use crate::seeds::first_short;
-use crate::session::session;
 use crate::status::Status;
 use crate::world::World;
 use rbg_bytes::{ByteSink, ByteSource};
-use std::alloc::{AllocError, Global};
+use session_core::{Session, session_solo};
+use std::alloc::Global;
 use tree_config::TreePlan;
 use tree_core::{OpenRefusal, SoloTree};
 
-/// The bytes that one read of the input asks for.
-const PIECE_LEN: usize = 65_536;
-
 /// The most frames of a session.
 const MAX_FRAMES: u64 = 1_048_576;
-
-// A buffer for what is read, and one for a reply.
-fn buffers(alloc: Global) -> Result<(Vec<u8>, Vec<u8>), AllocError>
-    ensures { IfOk result (λ both. (length both.0.items ≡ 65536) × (length both.1.items ≡ 65564)) }
-{
-    let piece = vec![in alloc; 0u8; PIECE_LEN]?;
-    let reply = vec![in alloc; 0u8; HEAD_LEN + MAX_PAYLOAD]?;
-    Ok((piece, reply))
-}
 
 // A tree of the plan over its samples, which are opened in order, and over these seeds, none of them too short.
 fn open_tree<W: World>(
@@ -75,13 +62,11 @@ pub fn serve<W: World, I: ByteSource, O: ByteSink>(
     if let Some(short) = first_short(&plan, &seeds) {
         return short;
     }
-    let Ok((mut piece, mut buffer)) = buffers(alloc) else {
+    let Ok(mut buffers) = Session::open(alloc, MAX_FRAMES) else {
         return Status::Memory;
     };
     match open_tree(alloc, plan, seeds, world) {
-        Ok(tree) => {
-            Status::of(session(tree, MAX_FRAMES, &mut piece, &mut buffer, input, output))
-        }
+        Ok(mut tree) => Status::of(session_solo(&mut buffers, &mut tree, input, output)),
         Err(why) => not_opened(why, world),
     }
 }

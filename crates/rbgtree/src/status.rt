@@ -3,9 +3,9 @@ ghost use Rattle.std.specs.Prelude.{◌≡◌};
 ghost use Rattle.rbg_bytes.specs.Streams.{HasCause, TakesAll};
 ghost use Rattle.rbgtree.specs.Statuses.{number_of, line_of, status_of};
 
-use crate::ends::End;
 use crate::lines::{config_fault, malformed, numbered, plain, seed_short};
 use rbg_bytes::{ByteSink, Failed, Line};
+use session_core::End;
 use tree_config::ConfigFault;
 
 /// The commands, as the line on standard error names them.

@@ -1,9 +1,5 @@
 // Runs of `run` over files, input and output in memory: what the frames of a session are answered, and how the program ends.
-ghost use Rattle.std.specs.Prelude.{◌≤◌};
-
-use crate::ends::End;
 use crate::memory_world::MemWorld;
-use crate::session::session;
 use crate::status::Status;
 use crate::top::run;
 use rbg_bytes::{ByteSink, ByteSource, Failed, MemSink, MemSource};
@@ -11,8 +7,7 @@ use sample_source::Recorded;
 use sha2::{Digest, Sha256};
 use std::process::Abort;
 use std::test::Fail;
-use tree_config::{ConfigFault, Field, Place, TreePlan};
-use tree_core::SoloTree;
+use tree_config::{ConfigFault, Field, Place};
 
 /// What a run is over: how many bytes of 00, 01 and so on the file `s` has, how many bytes one read of the input gives, and
 /// which calls of the world, the input and the output fail.
@@ -54,9 +49,7 @@ fn ran(
     words: &[&str],
     input: &[u8],
     setting: &Setting,
-) -> Result<(Status, Vec<u8>), Fail>
-    requires { 1 ≤ setting.now.piece }
-{
+) -> Result<(Status, Vec<u8>), Fail> {
     let alloc = rt.alloc();
     let mut seed = Vec::new(alloc);
     for byte in 0..setting.seed {
@@ -67,7 +60,7 @@ fn ran(
     let mut world = MemWorld::new(files, samples, vec![in alloc; setting.world]?);
     let mut source = MemSource::new(
         input.to_vec(alloc)?,
-        setting.piece,
+        setting.piece.max(1),
         vec![in alloc; setting.input]?,
     );
     let mut sink = MemSink::new(
@@ -99,9 +92,7 @@ fn check(
     setting: &Setting,
     status: Status,
     written: &str,
-) -> Result<(), Fail>
-    requires { 1 ≤ setting.now.piece }
-{
+) -> Result<(), Fail> {
     let input = bytes_of(rt, input)?;
     let (ended, wrote) = ran(rt, &["seed", "s"], &input, setting)?;
     assert_eq!(rt; ended, status);
@@ -114,30 +105,57 @@ const FIRST: &str = "01020000000000010000002000000000";
 const FIRST_REPLY: &str =
     "010002000000000100000000000000000000000000000000000000200ffb80875a3e9022a4941a3fa1b0d3611df14e1cf651a73ce9229b9f3ad56887";
 
+// A Generate of no bytes, which moves the state once, and one of 32.
+const NONE_FIRST: &str = "0102000000000001000000000000000001020000000000010000002000000000";
+
+const NONE_FIRST_REPLIES: &str =
+    "010002000000000100000000000000000000000000000000000000000100020000000001000000000000000000000000000000000000002022582545f7d0bd478ee2bbadaa706b41a520e85b9fe8e2870552e7b05a04150e";
+
+// Two frames.
+const TWO: &str = "0102000000000001000000200000000001020000000000020000002100000000";
+
+const TWO_REPLIES: &str =
+    "010002000000000100000000000000000000000000000000000000200ffb80875a3e9022a4941a3fa1b0d3611df14e1cf651a73ce9229b9f3ad568870100020000000002000000000000000000000000000000000000002108767656d3e9669eb668d1e1f5b80d27bb1aee12ff719eeb83e3dce006718c162b";
+
+const STATUS: &str = "01060000000000020000000000000000";
+
+const STATUS_REPLY: &str =
+    "0100060000000002000000000000000000000000000000000000001901000000000000000100000000000000010000000000000000";
+
+const MALFORMED: &str = "01ff0000000000000000000000000002000000000000000300000000";
+
 #[test]
-fn replies_are_those_of_the_standard(rt: HostRuntime) -> Result<(), Fail> {
-    check(&rt, FIRST, &PLAIN, Status::Done, FIRST_REPLY)?;
-    check(&rt, "", &PLAIN, Status::Done, "")?;
-    // A Generate of no bytes moves the state once.
-    check(
-        &rt,
-        "0102000000000001000000000000000001020000000000010000002000000000",
-        &PLAIN,
-        Status::Done,
-        "010002000000000100000000000000000000000000000000000000000100020000000001000000000000000000000000000000000000002022582545f7d0bd478ee2bbadaa706b41a520e85b9fe8e2870552e7b05a04150e",
-    )?;
-    // Two frames, in one piece and a byte at a time.
-    let two = "0102000000000001000000200000000001020000000000020000002100000000";
-    let replies =
-        "010002000000000100000000000000000000000000000000000000200ffb80875a3e9022a4941a3fa1b0d3611df14e1cf651a73ce9229b9f3ad568870100020000000002000000000000000000000000000000000000002108767656d3e9669eb668d1e1f5b80d27bb1aee12ff719eeb83e3dce006718c162b";
-    check(&rt, two, &PLAIN, Status::Done, replies)?;
-    check(
-        &rt,
-        two,
-        &Setting { piece: 1, ..PLAIN },
-        Status::Done,
-        replies,
-    )
+fn sessions_are_answered_and_end(rt: HostRuntime) -> Result<(), Fail> {
+    let bytewise = Setting { piece: 1, ..PLAIN };
+    let late = Setting {
+        piece: 20,
+        input: 1,
+        ..PLAIN
+    };
+    let unwritten = Setting { output: 1, ..PLAIN };
+    let bad = Status::Malformed { offset: 2, why: 3 };
+    let cases = [
+        (FIRST, PLAIN, Status::Done, FIRST_REPLY),
+        ("", PLAIN, Status::Done, ""),
+        (NONE_FIRST, PLAIN, Status::Done, NONE_FIRST_REPLIES),
+        (TWO, PLAIN, Status::Done, TWO_REPLIES),
+        (TWO, bytewise, Status::Done, TWO_REPLIES),
+        (STATUS, PLAIN, Status::Done, STATUS_REPLY),
+        ("0103", PLAIN, Status::Cut { offset: 2 }, ""),
+        (
+            "01020000000000010000002000000005",
+            PLAIN,
+            Status::Cut { offset: 16 },
+            "",
+        ),
+        ("010202ffff", PLAIN, bad, MALFORMED),
+        (TWO, late, Status::ReadFault { count: 1 }, FIRST_REPLY),
+        (TWO, unwritten, Status::WriteFault { count: 1 }, FIRST_REPLY),
+    ];
+    for (input, setting, status, written) in cases {
+        check(&rt, input, &setting, status, written)?;
+    }
+    Ok(())
 }
 
 #[test]
@@ -173,44 +191,6 @@ fn the_longest_request_and_one_byte_more(rt: HostRuntime) -> Result<(), Fail> {
 }
 
 #[test]
-fn cut_and_malformed_input(rt: HostRuntime) -> Result<(), Fail> {
-    let cut = "010200000000000100000020000000";
-    check(&rt, cut, &PLAIN, Status::Cut { offset: 15 }, "")?;
-    let cases = [
-        (
-            "0103",
-            1,
-            "01ff0000000000000000000000000001000000000000000900000000",
-        ),
-        (
-            "010202",
-            2,
-            "01ff0000000000000000000000000002000000000000000900000000",
-        ),
-        (
-            "02",
-            0,
-            "01ff0000000000000000000000000000000000000000000900000000",
-        ),
-        (
-            "01020000000000010000002000000005",
-            15,
-            "01ff000000000000000000000000000f000000000000000900000000",
-        ),
-    ];
-    for (input, offset, written) in cases {
-        check(
-            &rt,
-            input,
-            &PLAIN,
-            Status::Malformed { offset, why: 9 },
-            written,
-        )?;
-    }
-    Ok(())
-}
-
-#[test]
 fn words_and_seeds_that_are_refused(rt: HostRuntime) -> Result<(), Fail> {
     let input = bytes_of(&rt, FIRST)?;
     let usages: [&[&str]; 7] = [
@@ -239,58 +219,6 @@ fn words_and_seeds_that_are_refused(rt: HostRuntime) -> Result<(), Fail> {
     assert_eq!(rt; missing.1.len(), 0);
     let failed = Setting { world: 0, ..PLAIN };
     check(&rt, FIRST, &failed, Status::OpenFault { count: 1 }, "")
-}
-
-#[test]
-fn reads_and_writes_that_fail(rt: HostRuntime) -> Result<(), Fail> {
-    let read = Setting {
-        piece: 20,
-        input: 1,
-        ..PLAIN
-    };
-    let two = "0102000000000001000000200000000001020000000000020000002100000000";
-    check(&rt, two, &read, Status::ReadFault { count: 1 }, FIRST_REPLY)?;
-    let full = Setting { room: 59, ..PLAIN };
-    let (most, _) = FIRST_REPLY.split_at(118);
-    check(&rt, FIRST, &full, Status::WriteFault { count: 1 }, most)?;
-    let unsaid = Setting { output: 0, ..PLAIN };
-    check(&rt, "00", &unsaid, Status::WriteFault { count: 1 }, "")?;
-    let three = bytes_of(
-        &rt,
-        "010200000000000100000020000000000102000000000001000000200000000001020000000000010000002000000000",
-    )?;
-    for (output, len) in [(0, 0), (1, 60), (2, 120)] {
-        let setting = Setting { output, ..PLAIN };
-        let (status, written) = ran(&rt, &["seed", "s"], &three, &setting)?;
-        assert_eq!(rt; status, Status::WriteFault { count: 1 });
-        assert_eq!(rt; written.len(), len);
-    }
-    Ok(())
-}
-
-#[test]
-fn the_quota_ends_a_session(rt: HostRuntime) -> Result<(), Fail> {
-    let alloc = rt.alloc();
-    let four = bytes_of(
-        &rt,
-        "01020000000000010000000000000000010200000000000200000000000000000102000000000003000000000000000001020000000000040000000000000000",
-    )?;
-    let mut source = MemSource::new(four, 65_536, Vec::new(alloc));
-    let mut sink = MemSink::new(vec![in alloc; 0u8; 112]?, Vec::new(alloc));
-    let mut piece = vec![in alloc; 0u8; 65_536]?;
-    let mut buffer = vec![in alloc; 0u8; 65_564]?;
-    let plan = TreePlan::stock(alloc)?;
-    let sources: Vec<Recorded> = Vec::new(alloc);
-    let mut seeds = Vec::new(alloc);
-    seeds.push(vec![in alloc; 1u8; 48]?)?;
-    let tree = match SoloTree::open(alloc, plan, sources, seeds) {
-        Ok(tree) => tree,
-        Err(why) => panic!(&rt; "not opened: {why:?}"),
-    };
-    let end = session(tree, 3, &mut piece, &mut buffer, &mut source, &mut sink);
-    assert_eq!(rt; end, End::Quota { frames: 3 });
-    assert_eq!(rt; sink.written().len(), 84);
-    Ok(())
 }
 
 #[test]

@@ -1,4 +1,4 @@
-use Rattle.std.proofs.Common.{◌≡◌, ◌≤◌, ◌<◌, ◌∙◌, length, take, subst, sym, ap, List, ℕ, arith}
+use Rattle.std.proofs.Common.{◌≡◌, ◌<◌, ◌∙◌, length, take, subst, sym, ap, List, ℕ, arith}
 use Rattle.rbg_nodes.specs.Node.{New, seed_len}
 use Rattle.rbg_nodes.specs.Views.{row_of}
 use Rattle.rbgtree.specs.Seeds.{IsFront}

@@ -1,4 +1,4 @@
-use Rattle.std.proofs.Common.{List, ℕ, refl, subst, map, inl, inr, rules}
+use Rattle.std.proofs.Common.{refl, subst, map, inl, inr, rules}
 use Rattle.std.specs.Prelude.{Option, string_bytes}
 use Rattle.tree_config.specs.Tree.{Tree}
 use Rattle.rbgtree.specs.Check.{HasChecked}

@@ -1,5 +1,5 @@
-use Rattle.std.proofs.Common.{List, ℕ, map, subst, inr}
-use Rattle.std.specs.Prelude.{Option, Some}
+use Rattle.std.proofs.Common.{map, subst, inr}
+use Rattle.std.specs.Prelude.{Some}
 use Rattle.tree_config.specs.Tree.{Tree}
 use Rattle.tree_config.specs.declared.plan.NodePlan.{NodePlan}
 use Rattle.rbgtree.specs.Run.{Outside, RanOver, outside_of}
