@@ -1,0 +1,9 @@
+pub mod Wording
+pub mod Numerals
+pub mod Optional
+pub mod Pieces
+pub mod Causing
+pub mod Served
+pub mod Lining
+pub mod Telling
+pub mod Finishing

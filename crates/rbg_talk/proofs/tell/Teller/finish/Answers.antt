@@ -1,0 +1,6 @@
+use Rattle.std.proofs.Common.{arith}
+use Rattle.rbg_talk.proofs.Telling.{ends_cut, ends_done, ends_refused}
+use Rattle.rbg_talk.proofs.tell.Teller.finish.Goals as goal
+
+pub returns-then-self-clause-ends : goal.returns-then-self-clause-ends
+returns-then-self-clause-ends c before left out taken st at_end = ends_cut before taken c.args.self.now out st c.requires.teller.offset left at_end c.if-self.true

@@ -1,0 +1,12 @@
+pub mod Lines
+pub mod Words
+pub mod Calls
+pub mod Parsed
+pub mod Asking
+pub mod Shown
+pub mod Statuses
+pub mod Ends
+pub mod Run
+pub mod Causes
+pub mod Asker
+pub mod Teller
