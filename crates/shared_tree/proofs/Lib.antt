@@ -1,0 +1,16 @@
+pub mod Maps
+pub mod Empties
+pub mod Plans
+pub mod Reading
+pub mod Settling
+pub mod Reaching
+pub mod Leaving
+pub mod Staying
+pub mod Idle
+pub mod Elements
+pub mod Opened
+pub mod Sorting
+pub mod Answering
+pub mod Reasoning
+pub mod Ends
+pub mod Ready

@@ -1,0 +1,15 @@
+pub mod Machine
+pub mod Passes
+pub mod Answers
+pub mod Opens
+pub mod Closes
+pub mod One
+pub mod OneLaws
+pub mod Both
+pub mod BothLaws
+pub mod Sums
+pub mod Rows
+pub mod RowLaws
+pub mod LentPlace
+pub mod Carries
+pub mod Sorted
