@@ -1,6 +1,8 @@
 /* The peer of bench/compare, over OpenSSL's EVP_RAND.
  *
- *   evp_frames SEED <FRAMES >REPLIES   the work of rbgtree seed SEED, for Generate frames of 1 to 65,536 bytes
+ *   evp_frames MECHANISM SEED <FRAMES >REPLIES   Generate frames of 1 to 65,536 bytes, answered from the 48 bytes of the file SEED: with
+ *                                                hmac-sha-256 the work of rbgtree seed SEED, with ctr-aes-256 that of rbgtree
+ *                                                answer over one node with this DRBG and this seed
  *
  * As there, a read asks for 65,536 bytes, and each reply is one write. Other frames end it with status 1.
  */
@@ -68,11 +70,18 @@ static void answer_all(EVP_RAND_CTX *drbg)
 
 int main(int argc, char **argv)
 {
-    static const struct mechanism hmac_sha_256 = {"hmac-sha-256", "HMAC-DRBG", OSSL_DRBG_PARAM_DIGEST, "SHA2-256"};
+    static const struct mechanism served[] = {
+        {"hmac-sha-256", "HMAC-DRBG", OSSL_DRBG_PARAM_DIGEST, "SHA2-256"},
+        {"ctr-aes-256", "CTR-DRBG", OSSL_DRBG_PARAM_CIPHER, "AES-256-CTR"},
+    };
     unsigned char seed[48];
-    FILE *file = argc == 2 ? fopen(argv[1], "rb") : NULL;
+    FILE *file = argc == 3 ? fopen(argv[2], "rb") : NULL;
     if (file == NULL || fread(seed, 1, sizeof seed, file) != sizeof seed)
-        fail("usage: evp_frames SEED, a file of 48 bytes");
-    answer_all(instantiate(&hmac_sha_256, seed, 32, seed + 32, 16));
-    return 0;
+        fail("usage: evp_frames MECHANISM SEED, a file of 48 bytes");
+    for (size_t i = 0; i < sizeof served / sizeof *served; i++)
+        if (strcmp(argv[1], served[i].name) == 0) {
+            answer_all(instantiate(&served[i], seed, 32, seed + 32, 16));
+            return 0;
+        }
+    fail("no such mechanism");
 }

@@ -1,8 +1,12 @@
 pub mod Words
 pub mod Jobs
+pub mod TreeJobs
 pub mod Outputs
 pub mod Workers
 pub mod Iterated
 pub mod Samples
 pub mod Runs
 pub mod Lines
+pub mod Calls
+pub mod Draws
+pub mod TreeLines

@@ -7,9 +7,9 @@ use Rattle.health_tests.specs.Cutoffs.{Limits}
 use Rattle.rbg_bench.specs.declared.job.Primitive.{Primitive}
 use Rattle.rbg_bench.specs.declared.job.Primitive.TheVariants.{AesBlock, FourAesBlocks, HashOfZeros}
 use Rattle.rbg_bench.specs.declared.job.Job.{Job}
-use Rattle.rbg_bench.specs.declared.job.Job.TheVariants.{Generates, Repeats, Tests}
+use Rattle.rbg_bench.specs.declared.job.Job.TheVariants.{Generates, Reseeds, Repeats, Tests}
 use Rattle.rbg_bench.specs.declared.runs.Totals.{Totals}
-use Rattle.rbg_bench.specs.Outputs.{outputs}
+use Rattle.rbg_bench.specs.Outputs.{outputs, reseeded_outputs}
 use Rattle.rbg_bench.specs.Workers.{instantiated}
 use Rattle.rbg_bench.specs.Iterated.{iterated, counting_key, long_counting_key}
 use Rattle.rbg_bench.specs.Samples.{generated}
@@ -32,5 +32,6 @@ totals_text t = decimal t.samples ++ (codes " samples, " ++ (decimal t.alarms ++
 -- for generates the SHA-256 of their bytes, one after another; what is hashed or encrypted is printed in lower-case hexadecimal
 abbrev pub line_of : Job → List ℕ
 line_of (Generates mechanism bytes times) = encode_lower (sha256 (outputs bytes times (instantiated mechanism)))
+line_of (Reseeds mechanism bytes times) = encode_lower (sha256 (reseeded_outputs bytes times (instantiated mechanism)))
 line_of (Repeats primitive times) = encode_lower (repeated primitive times)
 line_of (Tests form samples times) = totals_text (totals_of low_cutoffs times (generated samples 0))

@@ -38,6 +38,8 @@ pub enum Form {
 pub enum Job {
     // Generates of so many bytes.
     Generates(Mechanism, usize, u32),
+    // The same, each after a reseed.
+    Reseeds(Mechanism, usize, u32),
     // One primitive again and again.
     Repeats(Primitive, u32),
     // The health tests over so many samples.
@@ -100,6 +102,21 @@ fn generates(name: &str, bytes: &str, times: &str) -> Option<Job>
     Some(Job::Generates(mechanism, bytes as usize, times as u32))
 }
 
+// The generates after reseeds that four words ask for: up to 65,536 bytes, 1 to 1,000,000 times.
+fn reseeds(first: &str, name: &str, bytes: &str, times: &str) -> Option<Job>
+    ensures asked { IfSome result (λ job. AsksFor (first.now ∷ name.now ∷ bytes.now ∷ times.now ∷ []) job × IsInRange job) }
+    ensures refused { IfNone result ((m : Mechanism) (b t : ℕ) →
+        AsksFor (first.now ∷ name.now ∷ bytes.now ∷ times.now ∷ []) (Job.Reseeds m b t) → IsInRange (Job.Reseeds m b t) → ⊥) }
+{
+    if first != "reseeded" {
+        return None;
+    }
+    let mechanism = mechanism_named(name)?;
+    let bytes = number(bytes, 0, 65_536)?;
+    let times = number(times, 1, 1_000_000)?;
+    Some(Job::Reseeds(mechanism, bytes as usize, times as u32))
+}
+
 // The repeats that two words ask for: 1 to 100,000,000.
 fn repeats(name: &str, times: &str) -> Option<Job>
     ensures asked { IfSome result (λ job. AsksFor (name.now ∷ times.now ∷ []) job × IsInRange job) }
@@ -139,6 +156,12 @@ pub fn read_job(words: &[String]) -> Option<Job>
                 None => tests(name_text, size_text, times_text),
             }
         }
+        [first, name, size, times] => reseeds(
+            first.as_str(),
+            name.as_str(),
+            size.as_str(),
+            times.as_str(),
+        ),
         _ => None,
     }
 }

@@ -7,7 +7,7 @@ ghost use Rattle.rbg_bench.specs.Runs.{totals_of};
 ghost use Rattle.rbg_bench.specs.declared.job.Job.{Job};
 
 use crate::job::{Form, Job, Mechanism, Primitive};
-use crate::outputs::digest_of_mechanism;
+use crate::outputs::{digest_of_mechanism, digest_of_reseeds};
 use crate::primitives::{digest_of_zeros, encrypted, four_encrypted};
 use crate::runs::{self, Totals};
 use crate::samples;
@@ -26,6 +26,20 @@ fn generates(
 {
     let mut out = vec![in alloc; 0u8; bytes]?;
     hex::encode(alloc, digest_of_mechanism(mechanism, times, &mut out))
+}
+
+// The same of generates that each come after a reseed.
+fn reseeds(
+    alloc: Global,
+    mechanism: Mechanism,
+    bytes: usize,
+    times: u32,
+) -> Result<String, AllocError>
+    requires { bytes ≤ 65536 }
+    ensures { IfOk result (λ line. string_bytes line ≡ line_of (Job.Reseeds mechanism bytes times)) }
+{
+    let mut out = vec![in alloc; 0u8; bytes]?;
+    hex::encode(alloc, digest_of_reseeds(mechanism, times, &mut out))
 }
 
 // What the primitive gives.
@@ -71,6 +85,7 @@ pub fn line_of(alloc: Global, job: Job) -> Result<String, AllocError>
 {
     match job {
         Job::Generates(mechanism, bytes, times) => generates(alloc, mechanism, bytes, times),
+        Job::Reseeds(mechanism, bytes, times) => reseeds(alloc, mechanism, bytes, times),
         Job::Repeats(primitive, times) => repeats(alloc, primitive, times),
         Job::Tests(form, samples, times) => totals_text(
             alloc,

@@ -1,6 +1,6 @@
 // The mechanism at work.
 ghost use Rattle.std.specs.Prelude.{◌≡◌, ◌≤◌, ◌+◌, ◌^◌, length};
-ghost use Rattle.rbg_bench.specs.Outputs.{generated, after_generate};
+ghost use Rattle.rbg_bench.specs.Outputs.{generated, after_generate, after_reseed};
 ghost use Rattle.rbg_bench.specs.Workers.{instantiated, state_of, counter_of, IsWellFormed};
 
 use crate::job::Mechanism;
@@ -62,6 +62,22 @@ impl Worker {
                 Err(_) => unreachable!(),
             },
             Worker::Ctr(drbg) => match drbg.generate(&[], INTERVAL, out) {
+                Ok(()) => {}
+                Err(_) => unreachable!(),
+            },
+        }
+    }
+
+    // Reseeds with the entropy of the instantiation.
+    pub fn reseed(&mut self)
+        requires formed { IsWellFormed self.old }
+        ensures state { state_of self.new ≡ after_reseed (state_of self.old) }
+        ensures counter { counter_of self.new ≡ 1 }
+        ensures formed { IsWellFormed self.new }
+    {
+        match self {
+            Worker::Hmac(drbg) => drbg.reseed(&ENTROPY, &[]),
+            Worker::Ctr(drbg) => match drbg.reseed(&ENTROPY, &[]) {
                 Ok(()) => {}
                 Err(_) => unreachable!(),
             },
