@@ -1,0 +1,20 @@
+//! The mechanisms for callers in C: a static library without heap, threads or system calls. Each export is a thin layer over
+//! the crate below it. It checks what C may get wrong, answers a status, and a refusal leaves everything as it was. `include/rbg.h`
+//! is its page for C.
+//!
+//! - `status`: the statuses, and the numbers of the kinds;
+//! - `state`: a DRBG's state in the caller's memory;
+//! - `drbg`: the calls on it.
+#![tactic(auto)]
+
+mod drbg;
+mod state;
+mod status;
+#[cfg(test)]
+mod tests;
+
+pub use drbg::{
+    rbg_drbg_clear, rbg_drbg_counter, rbg_drbg_due, rbg_drbg_generate, rbg_drbg_generate_fresh,
+    rbg_drbg_instantiate, rbg_drbg_reseed,
+};
+pub use state::RbgDrbg;
