@@ -10,4 +10,5 @@ pub mod Raising
 pub mod Freshness
 pub mod Callings
 pub mod Opens
+pub mod Together
 pub mod Reasons

@@ -70,7 +70,7 @@ some_mapped f None (Some y) e = cc
 some_mapped f None None e = refl
 
 module _ {S : Type 0} (p : Tree) where
-  rows_still : (h t : Hold (SourceView S)) → SameRows h t → IsOfPlan p h → IsOfPlan p t
+  pub rows_still : (h t : Hold (SourceView S)) → SameRows h t → IsOfPlan p h → IsOfPlan p t
   rows_still h t same plan = record { node = λ k v e. by_node k v e (h.nodes k) refl; source = λ k v e. by_source k v e (h.sources k) refl } where
     by_node : (k : ℕ) (v : NodeView) → t.nodes k ≡ Some v → (o : Option NodeView) → h.nodes k ≡ o → IsNodeOf p k v
     by_node k v e None f = let s = same.nodes k in absurd (cc)
@@ -86,6 +86,9 @@ module _ {S : Type 0} (p : Tree) where
         let row : v.row ≡ w.row = cc in
         let was = plan.source k w f in record { high = was.high; low = was.low; row = row ∙ was.row }
 
+  pub same_count : (nodes ns : List NodeView) (sources ss : List (SourceView S)) → SameRows (all_held nodes sources) (all_held ns ss) → length ns ≡ length nodes
+  same_count nodes ns sources ss same = same_length ns nodes (λ k. some_mapped (λ (v : NodeView). v.row) (slice_get ns k) (slice_get nodes k) (same.nodes k))
+
   pub still_of_plan : (nodes ns : List NodeView) (sources ss : List (SourceView S)) → AreOfPlan p nodes sources → SameRows (all_held nodes sources) (all_held ns ss) → AreOfPlan p ns ss
   still_of_plan nodes ns sources ss are same = record {
     node_count = count ∙ are.node_count;
@@ -93,7 +96,7 @@ module _ {S : Type 0} (p : Tree) where
     rows = rows_still (all_held nodes sources) (all_held ns ss) same are.rows;
   } where
     count : length ns ≡ length nodes
-    count = same_length ns nodes (λ k. some_mapped (λ (v : NodeView). v.row) (slice_get ns k) (slice_get nodes k) (same.nodes k))
+    count = same_count nodes ns sources ss same
 
     at : (j : ℕ) → option_map (λ (v : SourceView S). v.row) (slice_get ss j) ≡ option_map (λ (v : SourceView S). v.row) (slice_get sources j)
     at j = ap (λ (o : Option (SourceView S)). option_map (λ (v : SourceView S). v.row) o) (sym (behind_at (length nodes) ss j) ∙ ap (λ n. source_behind n ss (length nodes + j)) (sym count))

@@ -1,81 +1,49 @@
 // Calls on small trees, with replies, bytes and counts that an independent implementation computes.
+mod held;
+mod memory;
 mod rows;
 pub(crate) mod runs;
 
 use crate::OpenRefusal;
 use rows::{
-    AGAIN, ALARM, ENDED, FAILED, FOUR, NOTHING, ONE, ONE_COUNTS, ORPHAN, OUTPUTS, OUTPUTS_COUNTS,
-    PAIR, PAIRED, PAIRED_COUNTS, SOURCE, START_UP, STRING,
+    AGAIN, ALARM, ENDED, ENDED_COUNTS, FAILED, FOUR, NOTHING, ONE, ONE_COUNTS, ORPHAN, OUTPUTS,
+    OUTPUTS_COUNTS, PAIR, PAIRED, PAIRED_COUNTS, SOURCE, START_UP, START_UP_COUNTS, STRING,
 };
-use runs::{counts, first_other, opened, opening, over, ramp};
+use runs::{first_wrong, opened, opening, over, ramp};
 use sample_source::{Faulty, Recorded};
 use std::test::Fail;
 
+// Each row is a plan, how many samples its source has, the places from .. to where they are 9, the calls, and the counts behind them.
 #[test]
-fn a_child_reseeds_by_its_parent(rt: HostRuntime) -> Result<(), Fail> {
+fn calls_have_these_replies_bytes_and_counts(rt: HostRuntime) -> Result<(), Fail> {
     let alloc = rt.alloc();
-    let mut tree = over(alloc, PAIR, 65536, 0, 0)?;
-    assert_eq!(rt; first_other(alloc, &mut tree, PAIRED)?, 0);
-    assert_eq!(rt; counts(alloc, &tree)?.as_str(), PAIRED_COUNTS);
-    assert_eq!(rt; first_other(alloc, &mut tree, STRING)?, 0);
+    for (plan, total, from, to, calls, at_end) in [
+        (PAIR, 65536, 0, 0, [PAIRED, ""], PAIRED_COUNTS),
+        (PAIR, 65536, 0, 0, [PAIRED, STRING], ""),
+        (PAIR, 65536, 0, 0, [PAIRED, AGAIN], ""),
+        (PAIR, 65536, 0, 0, [PAIRED, ORPHAN], ""),
+        (PAIR, 65536, 1150, 1154, [PAIRED, ALARM], ""),
+        (PAIR, 65536, 1020, 1024, [START_UP, ""], START_UP_COUNTS),
+        (PAIR, 1103, 0, 0, [ENDED, ""], ENDED_COUNTS),
+        (SOURCE, 65536, 0, 0, [ONE, ""], ONE_COUNTS),
+        (FOUR, 65536, 0, 0, [OUTPUTS, ""], OUTPUTS_COUNTS),
+        (FOUR, 65536, 0, 0, [NOTHING, ""], ""),
+    ] {
+        let tree = over(alloc, plan, total, from, to)?;
+        assert_eq!(rt; first_wrong(alloc, tree, calls, at_end)?, 0, "of {calls:?}");
+    }
     Ok(())
 }
 
 #[test]
-fn a_child_waits_for_its_parent(rt: HostRuntime) -> Result<(), Fail> {
+fn a_read_fails(rt: HostRuntime) -> Result<(), Fail> {
     let alloc = rt.alloc();
-    let mut tree = over(alloc, PAIR, 65536, 0, 0)?;
-    assert_eq!(rt; first_other(alloc, &mut tree, PAIRED)?, 0);
-    assert_eq!(rt; first_other(alloc, &mut tree, AGAIN)?, 0);
-    let mut tree = over(alloc, PAIR, 65536, 0, 0)?;
-    assert_eq!(rt; first_other(alloc, &mut tree, PAIRED)?, 0);
-    assert_eq!(rt; first_other(alloc, &mut tree, ORPHAN)?, 0);
-    Ok(())
-}
-
-#[test]
-fn an_alarm_stops_a_source(rt: HostRuntime) -> Result<(), Fail> {
-    let alloc = rt.alloc();
-    let mut tree = over(alloc, PAIR, 65536, 1150, 1154)?;
-    assert_eq!(rt; first_other(alloc, &mut tree, PAIRED)?, 0);
-    assert_eq!(rt; first_other(alloc, &mut tree, ALARM)?, 0);
-    let mut tree = over(alloc, PAIR, 65536, 1020, 1024)?;
-    assert_eq!(rt; first_other(alloc, &mut tree, START_UP)?, 0);
-    Ok(())
-}
-
-#[test]
-fn samples_end_and_reads_fail(rt: HostRuntime) -> Result<(), Fail> {
-    let alloc = rt.alloc();
-    let mut tree = over(alloc, PAIR, 1103, 0, 0)?;
-    assert_eq!(rt; first_other(alloc, &mut tree, ENDED)?, 0);
     let mut fail = Vec::new(alloc);
     fail.push(1u64)?;
     let mut sources = Vec::new(alloc);
     sources.push(Faulty::new(ramp(alloc, 65536, 1, &[])?, 4096, fail))?;
-    let mut tree = opened(alloc, PAIR, sources, 0, 48)?;
-    assert_eq!(rt; first_other(alloc, &mut tree, FAILED)?, 0);
-    Ok(())
-}
-
-#[test]
-fn one_node_reseeds_by_its_source(rt: HostRuntime) -> Result<(), Fail> {
-    let alloc = rt.alloc();
-    let mut tree = over(alloc, SOURCE, 65536, 0, 0)?;
-    assert_eq!(rt; first_other(alloc, &mut tree, ONE)?, 0);
-    assert_eq!(rt; counts(alloc, &tree)?.as_str(), ONE_COUNTS);
-    Ok(())
-}
-
-#[test]
-fn rbg3s_draw_for_each_output(rt: HostRuntime) -> Result<(), Fail> {
-    let alloc = rt.alloc();
-    let mut tree = over(alloc, FOUR, 65536, 0, 0)?;
-    assert_eq!(rt; first_other(alloc, &mut tree, OUTPUTS)?, 0);
-    assert_eq!(rt; counts(alloc, &tree)?.as_str(), OUTPUTS_COUNTS);
-    assert_eq!(rt; tree.calls(), 17);
-    let mut tree = over(alloc, FOUR, 65536, 0, 0)?;
-    assert_eq!(rt; first_other(alloc, &mut tree, NOTHING)?, 0);
+    let tree = opened(alloc, PAIR, sources, 0, 48)?;
+    assert_eq!(rt; first_wrong(alloc, tree, [FAILED, ""], "")?, 0);
     Ok(())
 }
 
@@ -96,12 +64,4 @@ fn the_least_short_seed_is_named(rt: HostRuntime) -> Result<(), Fail> {
             Ok(())
         }
     }
-}
-
-#[test]
-fn a_tree_is_taken_apart(rt: HostRuntime) -> Result<(), Fail> {
-    let alloc = rt.alloc();
-    let parts = over(alloc, FOUR, 65536, 0, 0)?.into_parts();
-    assert_eq!(rt; (parts.nodes.len(), parts.sources.len()), (4, 1));
-    Ok(())
 }

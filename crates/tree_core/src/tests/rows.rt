@@ -229,10 +229,20 @@ generate 0 8
 generate 1 8
 0 0 0 8ce0878065528b99";
 
-// The counts behind the calls of PAIRED, ONE and OUTPUTS.
+// The counts behind the calls of PAIRED, START_UP, ENDED, ONE and OUTPUTS.
 pub(crate) const PAIRED_COUNTS: &str = "node 0: live 1 counter 2 seeds 2 gives 3
 node 1: live 1 counter 2 seeds 3 gives 3
 source 0: taken 1144 blocks 3
+";
+
+pub(crate) const START_UP_COUNTS: &str = "node 0: live 0 counter 0 seeds 0 gives 0
+node 1: live 0 counter 0 seeds 0 gives 0
+source 0: taken 1024 blocks 0
+";
+
+pub(crate) const ENDED_COUNTS: &str = "node 0: live 0 counter 0 seeds 0 gives 0
+node 1: live 0 counter 0 seeds 0 gives 0
+source 0: taken 1103 blocks 1
 ";
 
 pub(crate) const ONE_COUNTS: &str = "node 0: live 1 counter 2 seeds 2 gives 3

@@ -1,9 +1,12 @@
 // Trees over recorded samples, and runs of calls in words.
-use crate::{Call, OpenRefusal, SoloTree};
+ghost use Rattle.std.specs.Prelude.{◌≡◌, length, IfOk};
+
+use crate::{Call, OpenRefusal, Reply, SoloTree};
 use sample_source::{Recorded, Samples};
 use std::alloc::Global;
 use std::test::Fail;
 use tree_config::TreePlan;
+use tree_rules::counts_are_small;
 
 // So many samples, the one at place k being k * step mod 251, but other ones at some places, from .. to.
 pub(crate) fn ramp(
@@ -155,7 +158,21 @@ fn call_of(alloc: Global, line: &str) -> Result<(Call, Vec<u8>), Fail> {
     Ok((call, string))
 }
 
-// Makes a call, and says its reply as the cases do: the code, two numbers, and the bytes in hexadecimal.
+// A reply as the cases say it: the code, two numbers, and the bytes in hexadecimal.
+pub(crate) fn text_of(alloc: Global, reply: Reply, out: &[u8]) -> Result<String, Fail> {
+    let len = reply.len as usize;
+    if len > out.len() {
+        return Err(Fail::from("too many bytes"));
+    }
+    let text = if len == 0 {
+        String::from_str(alloc, "-")?
+    } else {
+        hex::encode(alloc, &out[..len])?
+    };
+    Ok(format!(in alloc; "{} {} {} {}", reply.code, reply.a, reply.b, text)?)
+}
+
+// Makes a call, and says its reply.
 fn said<S: Samples>(
     alloc: Global,
     tree: &mut SoloTree<S>,
@@ -167,16 +184,7 @@ fn said<S: Samples>(
     }
     let (call, string) = call_of(alloc, line)?;
     let reply = tree.call(&call, &string, out);
-    let len = reply.len as usize;
-    if len > out.len() {
-        return Err(Fail::from("too many bytes"));
-    }
-    let text = if len == 0 {
-        String::from_str(alloc, "-")?
-    } else {
-        hex::encode(alloc, &out[..len])?
-    };
-    Ok(format!(in alloc; "{} {} {} {}", reply.code, reply.a, reply.b, text)?)
+    text_of(alloc, reply, out)
 }
 
 // The first call, counted from 1, that is answered otherwise, or 0. Lines are a call and its reply in turns.
@@ -222,17 +230,23 @@ pub(crate) fn counts<S: Samples>(alloc: Global, tree: &SoloTree<S>) -> Result<St
     Ok(text)
 }
 
-// A tree of a plan over its sources, with a seed for each RBG1 of bytes that count up from the first to the last.
-pub(crate) fn opening<S: Samples>(
+// The plan of a text.
+pub(crate) fn plan_of(alloc: Global, text: &str) -> Result<TreePlan, Fail> {
+    match TreePlan::read(alloc, text.as_bytes()) {
+        Ok(plan) => Ok(plan),
+        Err(_) => Err(Fail::from("no plan")),
+    }
+}
+
+// A seed for each node of a plan, of bytes that count up from the first to the last.
+pub(crate) fn seeds_of(
     alloc: Global,
-    text: &str,
-    sources: Vec<S>,
+    plan: &TreePlan,
     first: u8,
     last: u8,
-) -> Result<Result<SoloTree<S>, OpenRefusal>, Fail> {
-    let Ok(plan) = TreePlan::read(alloc, text.as_bytes()) else {
-        return Err(Fail::from("no plan"));
-    };
+) -> Result<Vec<Vec<u8>>, Fail>
+    ensures { IfOk result (λ seeds. length seeds.items ≡ length plan.now.nodes) }
+{
     let mut seeds = Vec::new(alloc);
     for _ in 0..plan.nodes() {
         let mut seed = Vec::new(alloc);
@@ -241,10 +255,31 @@ pub(crate) fn opening<S: Samples>(
         }
         seeds.push(seed)?;
     }
-    if sources.len() != usize::from(plan.sources()) || seeds.len() != usize::from(plan.nodes()) {
-        return Err(Fail::from("other sources or nodes"));
+    if seeds.len() != usize::from(plan.nodes()) {
+        return Err(Fail::from("other nodes"));
     }
-    Ok(SoloTree::open(alloc, plan, sources, seeds))
+    Ok(seeds)
+}
+
+// A tree of a plan over its sources, with a seed for each RBG1 of bytes that count up from the first to the last. It was taken apart and
+// put together again.
+pub(crate) fn opening<S: Samples>(
+    alloc: Global,
+    text: &str,
+    sources: Vec<S>,
+    first: u8,
+    last: u8,
+) -> Result<Result<SoloTree<S>, OpenRefusal>, Fail> {
+    let plan = plan_of(alloc, text)?;
+    let seeds = seeds_of(alloc, &plan, first, last)?;
+    if sources.len() != usize::from(plan.sources()) {
+        return Err(Fail::from("other sources"));
+    }
+    counts_are_small();
+    match SoloTree::open(alloc, plan, sources, seeds) {
+        Ok(tree) => Ok(Ok(SoloTree::of_parts(tree.into_parts()))),
+        Err(why) => Ok(Err(why)),
+    }
 }
 
 pub(crate) fn opened<S: Samples>(
@@ -272,4 +307,25 @@ pub(crate) fn over(
     let mut sources = Vec::new(alloc);
     sources.push(Recorded::new(ramp(alloc, total, 1, &[(9, from, to)])?))?;
     opened(alloc, text, sources, 0, 48)
+}
+
+// Makes calls on a tree, and says which one, counted from 1, is the first that is answered otherwise, or 0. The counts behind them, if any
+// are given, are those of the tree.
+pub(crate) fn first_wrong<S: Samples>(
+    alloc: Global,
+    tree: SoloTree<S>,
+    calls: [&str; 2],
+    at_end: &str,
+) -> Result<u64, Fail> {
+    let mut tree = tree;
+    for part in calls {
+        let other = first_other(alloc, &mut tree, part)?;
+        if other > 0 {
+            return Ok(other);
+        }
+    }
+    if !at_end.is_empty() && counts(alloc, &tree)?.as_str() != at_end {
+        return Err(Fail::from("other counts"));
+    }
+    Ok(0)
 }
