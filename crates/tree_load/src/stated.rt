@@ -2,7 +2,7 @@
 ghost use Rattle.std.specs.Prelude.{◌≡◌, ◌<◌, ◌/◌, ◌%◌, ◌^◌};
 ghost use Rattle.tree_load.specs.Load.{next_number, stated_call};
 
-use tree_rules::Call;
+use tree_core::Call;
 
 const FACTOR: u64 = 6_364_136_223_846_793_005;
 

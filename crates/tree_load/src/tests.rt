@@ -1,8 +1,17 @@
-// The load generator against another implementation of it.
+// The load generator and runs of its calls, against other implementations.
 ghost use Rattle.std.specs.Prelude.{◌<◌};
 
+mod plans;
+mod runs;
+
 use crate::StatedCalls;
-use tree_rules::Call;
+use plans::{
+    CLOSED, CLOSED_COUNTS, ENDING, ENDING_COUNTS, KINDS, KINDS_COUNTS, PAIRS, PAIRS_COUNTS,
+    PAIRS_OPENED,
+};
+use runs::run;
+use std::test::Fail;
+use tree_core::Call;
 
 fn first_calls(nodes: u16, seed: u64) -> [Call; 4]
     requires { 0 < nodes }
@@ -47,4 +56,15 @@ fn a_seed_states_the_calls_of_another_implementation(rt: HostRuntime) {
         first_calls(5, u64::MAX),
         [call(3, 60), call(3, 5), call(2, 24), call(2, 51)]
     );
+}
+
+#[test]
+fn runs_end_with_the_counts_of_another_implementation(rt: HostRuntime) -> Result<(), Fail> {
+    let alloc = rt.alloc();
+    assert_eq!(rt; run(alloc, PAIRS, 0, 1, 0, PAIRS_OPENED)?, true);
+    assert_eq!(rt; run(alloc, PAIRS, 20000, 1, 0, PAIRS_COUNTS)?, true);
+    assert_eq!(rt; run(alloc, CLOSED, 10, 1, 10, CLOSED_COUNTS)?, true);
+    assert_eq!(rt; run(alloc, KINDS, 150, 7, 0, KINDS_COUNTS)?, true);
+    assert_eq!(rt; run(alloc, ENDING, 40, 3, 21, ENDING_COUNTS)?, true);
+    Ok(())
 }
