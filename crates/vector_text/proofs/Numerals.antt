@@ -1,0 +1,64 @@
+-- Numbers in decimal digits.
+use Rattle.std.proofs.Common.{zero, suc, inl, inr, ◌≡◌, ◌<◌, ◌≤◌, ◌^◌, ℕ, ◌+◌, List, [], ◌∷◌, ◌&&◌, length, drop, get_or, Bool, true, false, cond, refl, sym, ap, ◌∙◌, subst, arith, lt-ltb, le-ltb, add-one, drop-cons, drop_of_length-le}
+use Rattle.std.specs.Prelude.{Option, Some, None, Result, Ok, Err, nat_lt, slice_index}
+use Rattle.std.specs.Char.{is_ascii_digit}
+use Rattle.std.specs.Str.{all_ascii_digits, IsUtf8, IsAscii}
+use Rattle.std.specs.Str.Parse.{ParsesUnsigned, digits_value}
+use Rattle.std.specs.Result.{OkIff}
+use Rattle.std.proofs.lemmas.Result.{OkIff-at_err}
+use Rattle.std.proofs.lemmas.Str.{IsUtf8-from_ascii}
+use Rattle.std.proofs.lemmas.Str.Parse.{numerals_by_value, tells_all_ascii_digits, parse_digits, IsNumeralModel, IsDigitsTest}
+use Rattle.std.proofs.lemmas.Bool.{cases_lt}
+use Rattle.vector_text.specs.Names.{count_of, count_below}
+
+-- what stands from a place on
+pub dropped : (s : List ℕ) (i : ℕ) → i < length s → drop i s ≡ get_or s i 0 ∷ drop (i + 1) s
+dropped s i h = rw (add-one, drop-cons s i 0) refl
+
+-- ---- the test of each byte
+
+-- a byte that is no digit
+pub digit_fails : (w : List ℕ) (i : ℕ) → i < length w → is_ascii_digit (get_or w i 0) ≡ false → all_ascii_digits (drop i w) ≡ all_ascii_digits w → false ≡ all_ascii_digits w
+digit_fails w i h other same =
+    sym (sym same ∙ (ap all_ascii_digits (dropped w i h) ∙ ap (λ (b : Bool). b && all_ascii_digits (drop (i + 1) w)) other))
+
+-- one digit more
+pub digit_more : (w : List ℕ) (i : ℕ) → i < length w → is_ascii_digit (get_or w i 0) ≡ true → all_ascii_digits (drop i w) ≡ all_ascii_digits w
+    → all_ascii_digits (drop (i + 1) w) ≡ all_ascii_digits w
+digit_more w i h digit same =
+    sym (ap all_ascii_digits (dropped w i h) ∙ ap (λ (b : Bool). b && all_ascii_digits (drop (i + 1) w)) digit) ∙ same
+
+-- all are digits
+pub digits_end : (w : List ℕ) (i : ℕ) → length w ≤ i → all_ascii_digits (drop i w) ≡ all_ascii_digits w → true ≡ all_ascii_digits w
+digits_end w i h same = sym (ap all_ascii_digits (drop_of_length-le w h)) ∙ same
+
+-- ---- digits as text, and as a number
+
+abbrev AreDigits : List ℕ → Type 0
+AreDigits ds = all_ascii_digits ds ≡ true
+
+abbrev own : IsNumeralModel AreDigits (digits_value 10)
+own = numerals_by_value AreDigits tells_all_ascii_digits
+
+-- digits are text
+digits_ascii : (w : List ℕ) → AreDigits w → IsAscii w
+digits_ascii [] all i = omega arith
+digits_ascii (c ∷ cs) all zero = omega (arith, (tells_all_ascii_digits.parts c cs all).0.1)
+digits_ascii (c ∷ cs) all (suc i) = digits_ascii cs (tells_all_ascii_digits.parts c cs all).1 i
+
+-- what is no text isn't digits
+pub not_text : (w : List ℕ) → all_ascii_digits w ≡ true → (IsUtf8 w → ⊥) → None ≡ count_of w
+not_text w all none = absurd (none (IsUtf8-from_ascii w (digits_ascii w all)))
+
+too_great : (w : List ℕ) → ((0 < length w) × (digits_value 10 w < 2 ^ 64) → ⊥) → None ≡ count_below w
+too_great [] never = refl
+too_great (c ∷ cs) never = elim (cases_lt (digits_value 10 (c ∷ cs)) (2 ^ 64)) [
+  | inl below ↦ absurd (never (omega arith, below))
+  | inr ge ↦ ap (λ (b : Bool). cond b (Some (digits_value 10 (c ∷ cs))) None) (sym (le-ltb (digits_value 10 (c ∷ cs)) (2 ^ 64) ge))
+]
+
+-- digits that are no number of 64 bits
+pub not_number : {E : Type 0} (w : List ℕ) (r : Result ℕ E) (e : E) → all_ascii_digits w ≡ true → ParsesUnsigned 64 10 w r → r ≡ Err e → None ≡ count_of w
+not_number w r e all parsed failed =
+    let never = OkIff-at_err r ((0 < length w) × (digits_value 10 w < 2 ^ 64)) (digits_value 10 w) e (parse_digits own 64 w r parsed all) failed in
+    too_great w never ∙ ap (λ (b : Bool). cond b (count_below w) None) (sym all)

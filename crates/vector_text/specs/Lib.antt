@@ -1,0 +1,9 @@
+pub mod Trims
+pub mod Names
+pub mod Shapes
+pub mod Groups
+pub mod Gathered
+pub mod Text
+pub mod Feeding
+pub mod Spots
+pub mod Reading
