@@ -5,24 +5,10 @@ use Rattle.std.specs.Str.Lines.{lines}
 use Rattle.std.specs.Io.KnownBytes.{Consumes, Keeps, IsAtEnd}
 use Rattle.std.proofs.Math.Seq.{take-append-add, take-add, take-length, take-nil, drop-length}
 use Rattle.std.proofs.lemmas.List.{drop-drop, drop-take}
-use Rattle.vector_text.specs.Feeding.{Window, Follows, is_line_feed, Grows, HasLine, Finds, IsLineEnd, last_found, BeginsLong}
+use Rattle.vector_text.specs.Feeding.{Window, Follows, is_line_feed, Grows, HasLine, Finds, last_found, BeginsLong}
 use Rattle.vector_text.specs.declared.feed.Found.{Found}
 use Rattle.vector_text.specs.declared.feed.Found.TheVariants.{End, Line, Long}
 use Rattle.vector_text.proofs.Lining.{lines_last, lines_long, nonempty}
-
--- nothing was read
-pub grows_none : (left : Option (List ℕ)) (w : Window) → Grows left w left w
-grows_none left w = record { got = []; ahead = sym (append-nil w.ahead); follows = λ more f. f; size = omega arith }
-
--- reads after others
-pub grows_both : (left0 : Option (List ℕ)) (w0 : Window) (left1 : Option (List ℕ)) (w1 : Window) (left2 : Option (List ℕ)) (w2 : Window)
-    → Grows left0 w0 left1 w1 → Grows left1 w1 left2 w2 → Grows left0 w0 left2 w2
-grows_both left0 w0 left1 w1 left2 w2 g h = record {
-  got = g.got ++ h.got;
-  ahead = h.ahead ∙ (ap (λ (x : List ℕ). x ++ h.got) g.ahead ∙ append_assoc w0.ahead g.got h.got);
-  follows = λ more f. subst (Follows left0 w0.room) (sym (append_assoc g.got h.got more)) (g.follows (h.got ++ more) (h.follows more f));
-  size = omega (arith, g.size, h.size, length-append g.got h.got);
-}
 
 not_told : (ys : List ℕ) → Some ys ≡ None → ⊥
 not_told ys e = absurd cc
@@ -51,10 +37,6 @@ pub none_follows : (left : Option (List ℕ)) (more : List ℕ) → Follows left
 none_follows None [] f = refl
 none_follows None (c ∷ more) f = absurd (omega (arith, f))
 none_follows (Some xs) more f = f
-
--- a line with its line feed
-pub found_line : (left : Option (List ℕ)) (w : Window) (len whole : ℕ) → IsLineEnd w.ahead len whole → HasLine left w len whole
-found_line left w len whole e = record { short = e.short; some = e.some; within = e.within; line = λ more f. e.line more }
 
 -- the last bytes
 last_line : (left : Option (List ℕ)) (c : ℕ) (ahead : List ℕ) → All (λ c. is_line_feed c ≡ false) (c ∷ ahead)

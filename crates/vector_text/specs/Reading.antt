@@ -64,6 +64,14 @@ Shrinks answers.TheVariants.Skipped old new = new < old
 Shrinks answers.TheVariants.End old new = ⊤
 Shrinks (answers.TheVariants.Fault line why) old new = ⊤
 
+-- Each case and each skipped group has a line of its own before the place, but for the group that is open.
+abbrev pub Counts : answers.Answer → Place → Place → Type 0
+Counts answers.TheVariants.Goes old new = old.number + groups_in new.group ≤ new.number + groups_in old.group
+Counts answers.TheVariants.Case old new = old.number + groups_in new.group + 1 ≤ new.number + groups_in old.group
+Counts answers.TheVariants.Skipped old new = old.number + groups_in new.group + 1 ≤ new.number + groups_in old.group
+Counts answers.TheVariants.End old new = ⊤
+Counts (answers.TheVariants.Fault line why) old new = ⊤
+
 -- Whatever may follow now, it may have followed something before from where the answer leads here. Where the source tells its
 -- bytes there is one such text.
 abbrev pub Leads : Option (List ℕ) → Reader → Option (List ℕ) → Reader → answers.Answer → Type 0
@@ -79,10 +87,10 @@ Gives left old left' new (Ok items.TheVariants.End) = Leads left old left' new a
 Gives left old left' new (Err (refusals.TheVariants.Fault line why)) = Leads left old left' new (answers.TheVariants.Fault line why)
 Gives left old left' new (Err (refusals.TheVariants.ReadFault count)) = Leads left old left' new answers.TheVariants.Goes
 
--- a case or a skipped group leaves less
-abbrev pub Nears : Result items.Item refusals.TextRefusal → ℕ → ℕ → Type 0
-Nears (Ok items.TheVariants.Case) old new = new < old
-Nears (Ok items.TheVariants.Skipped) old new = new < old
+-- A case or a skipped group leaves less, and has a line of its own before the place, but for the group that is open.
+abbrev pub Nears : Result items.Item refusals.TextRefusal → Reader → Reader → Type 0
+Nears (Ok items.TheVariants.Case) old new = Shrinks answers.TheVariants.Case (size_of old) (size_of new) × Counts answers.TheVariants.Case old.place new.place
+Nears (Ok items.TheVariants.Skipped) old new = Shrinks answers.TheVariants.Skipped (size_of old) (size_of new) × Counts answers.TheVariants.Skipped old.place new.place
 Nears (Ok items.TheVariants.End) old new = ⊤
 Nears (Err why) old new = ⊤
 

@@ -72,11 +72,11 @@ lines_taken answers.TheVariants.Skipped = 1
 lines_taken answers.TheVariants.End = 0
 lines_taken (answers.TheVariants.Fault line why) = 0
 
--- a case closes a group that was open
+-- a case closes a group that was open, and a skipped group leaves what was open as it was
 abbrev pub OpenBehind : answers.Answer → Bool → Bool → Type 0
 OpenBehind answers.TheVariants.Goes old new = ⊤
 OpenBehind answers.TheVariants.Case old new = (old ≡ true) × (new ≡ false)
-OpenBehind answers.TheVariants.Skipped old new = ⊤
+OpenBehind answers.TheVariants.Skipped old new = new ≡ old
 OpenBehind answers.TheVariants.End old new = ⊤
 OpenBehind (answers.TheVariants.Fault line why) old new = ⊤
 
@@ -87,3 +87,9 @@ EndsText answers.TheVariants.Case = ⊤
 EndsText answers.TheVariants.Skipped = ⊥
 EndsText answers.TheVariants.End = ⊤
 EndsText (answers.TheVariants.Fault line why) = ⊤
+
+-- a group that is skipped leaves what was open as it was
+abbrev pub OpenTook : tooks.Took → Bool → Bool → Type 0
+OpenTook tooks.TheVariants.Goes old new = ⊤
+OpenTook tooks.TheVariants.Skips old new = new ≡ old
+OpenTook (tooks.TheVariants.Fails why) old new = ⊤

@@ -26,3 +26,6 @@ mod trim;
 pub use case::{Case, Family, Mech};
 pub use laws::{ends_once, one_reading};
 pub use reader::{Item, TextRefusal, VectorReader};
+
+#[cfg(test)]
+mod tests;

@@ -1,6 +1,6 @@
 // A reader of a text, one item at a time.
-ghost use Rattle.std.specs.Prelude.{◌≡◌, IfOk};
-ghost use Rattle.vector_text.specs.Reading.{Begins, Gives, HasReadCause, Nears, size_of};
+ghost use Rattle.std.specs.Prelude.{◌≡◌, ◌≤◌, ◌^◌, IfOk};
+ghost use Rattle.vector_text.specs.Reading.{Begins, Gives, HasReadCause, Nears};
 
 use crate::case::{Case, Family};
 use crate::reading::Reading;
@@ -60,7 +60,8 @@ impl VectorReader {
     /// Reads up to the next item. After a fault, a failed read and the end there is none, and a further call is of no use.
     pub fn next<I: ByteSource>(&mut self, input: &mut I) -> Result<Item, TextRefusal>
         ensures gives { Gives (I.left input.old) self.old (I.left input.new) self.new result }
-        ensures nears { Nears result (size_of self.old) (size_of self.new) }
+        ensures nears { Nears result self.old self.new }
+        ensures lines { self.new.place.number ≤ 2 ^ 63 }
         ensures cause { HasReadCause (I.faults input.old) (I.faults input.new) result }
     {
         self.reading.next(input)

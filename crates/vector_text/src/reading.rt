@@ -2,8 +2,8 @@
 ghost use Rattle.std.specs.Prelude.{◌≡◌, ◌≤◌, ◌^◌, List, ℕ, length, Option, IfOk};
 ghost use Rattle.rbg_bytes.specs.Streams.{HasCause};
 ghost use Rattle.vector_text.specs.Feeding.{Finds, Follows};
-ghost use Rattle.vector_text.specs.Spots.{Says, window_behind};
-ghost use Rattle.vector_text.specs.Reading.{Begins, FitsFound, Gives, HasReadCause, IsReading, Nears, Shrinks, left_of, reader_of, size_of};
+ghost use Rattle.vector_text.specs.Spots.{Says, place_of, window_behind};
+ghost use Rattle.vector_text.specs.Reading.{Begins, Counts, FitsFound, Gives, HasReadCause, IsReading, Nears, Shrinks, left_of, reader_of, size_of};
 
 use crate::case::Family;
 use crate::feed::{Feed, Found};
@@ -69,6 +69,7 @@ impl Reading {
         ensures room { self.new.feed.room ≡ self.old.feed.room }
         ensures family { self.new.family ≡ self.old.family }
         ensures smaller { Shrinks result (size_of (reader_of self.old)) (size_of (reader_of self.new)) }
+        ensures counts { Counts result (place_of self.old.spot) (place_of self.new.spot) }
     {
         match found {
             Found::End => self.spot.end(),
@@ -90,7 +91,7 @@ impl Reading {
         requires reading { IsReading self.old }
         ensures gives { Gives (I.left input.old) (reader_of self.old) (I.left input.new) (reader_of self.new) result }
         ensures reading { IsReading self.new }
-        ensures nears { Nears result (size_of (reader_of self.old)) (size_of (reader_of self.new)) }
+        ensures nears { Nears result (reader_of self.old) (reader_of self.new) }
         ensures cause { HasReadCause (I.faults input.old) (I.faults input.new) result }
     {
         'lines: loop {

@@ -6,7 +6,7 @@ ghost use Rattle.vector_text.specs.Groups.{is_whole, case_of};
 ghost use Rattle.vector_text.specs.Gathered.{group_of};
 ghost use Rattle.vector_text.specs.Text.{Goes, at_start, behind, closed, counts, counts_badly, decoded, does, entries_from, placed};
 ghost use Rattle.vector_text.specs.declared.case.Family.{Family};
-ghost use Rattle.vector_text.specs.Spots.{EndsText, OpenBehind, Says, answer_of, closes, lines_behind, lines_taken, number_behind, place_of, took_of};
+ghost use Rattle.vector_text.specs.Spots.{EndsText, OpenBehind, OpenTook, Says, answer_of, closes, lines_behind, lines_taken, number_behind, place_of, took_of};
 
 use crate::case::Family;
 use crate::group::Gathered;
@@ -95,6 +95,7 @@ impl Spot {
         requires { self.old.number < 2 ^ 63 }
         ensures does { took_of result (place_of self.new) ≡ counts (place_of self.old) count self.old.section }
         ensures number { self.new.number ≡ number_behind result self.old.number }
+        ensures opened { OpenTook result self.old.is_open self.new.is_open }
     {
         match self.section {
             Section::Nowhere => Took::Fails { why: 6 },
@@ -116,6 +117,7 @@ impl Spot {
         requires { self.old.number < 2 ^ 63 }
         ensures does { took_of result (place_of self.new) ≡ counts_badly (place_of self.old) self.old.section }
         ensures number { self.new.number ≡ number_behind result self.old.number }
+        ensures opened { OpenTook result self.old.is_open self.new.is_open }
     {
         match self.section {
             Section::Skipped => {
@@ -132,6 +134,7 @@ impl Spot {
         requires bytes { length bytes.now ≤ 4096 }
         ensures does { took_of result (place_of self.new) ≡ placed (place_of self.old) field bytes.now (place_of self.old).group }
         ensures number { self.new.number ≡ number_behind result self.old.number }
+        ensures opened { OpenTook result self.old.is_open self.new.is_open }
     {
         if !self.is_open {
             return Took::Fails { why: 4 };
@@ -151,6 +154,7 @@ impl Spot {
         requires room { length room.old ≡ 32768 }
         ensures does { took_of result (place_of self.new) ≡ decoded (place_of self.old) field (decode_of (value_of line.now)) }
         ensures number { self.new.number ≡ number_behind result self.old.number }
+        ensures opened { OpenTook result self.old.is_open self.new.is_open }
         ensures room { length room.new ≡ length room.old }
     {
         match decode(value_of(line), room) {
@@ -169,6 +173,7 @@ impl Spot {
         requires { self.old.number < 2 ^ 63 }
         ensures does { took_of result (place_of self.new) ≡ Goes (behind (place_of self.old)) }
         ensures number { self.new.number ≡ number_behind result self.old.number }
+        ensures opened { OpenTook result self.old.is_open self.new.is_open }
     {
         self.number += 1;
         Took::Goes
@@ -181,6 +186,7 @@ impl Spot {
         requires room { length room.old ≡ 32768 }
         ensures does { took_of result (place_of self.new) ≡ does (place_of self.old) line.now shape }
         ensures number { self.new.number ≡ number_behind result self.old.number }
+        ensures opened { OpenTook result self.old.is_open self.new.is_open }
         ensures room { length room.new ≡ length room.old }
     {
         match shape {
