@@ -1,7 +1,7 @@
 //! The frames of a session, version 1, read a byte at a time and written whole.
 //!
 //! A frame is a head of fields in a row, high byte first, and a string whose length the head gives. Which numbers a field
-//! may hold stands in a table: of requests only Generate without a string is served yet, and replies have all their rows.
+//! may hold stands in a table, by the fields before it: that of requests has six operations, that of replies fifteen codes.
 //!
 //! - `frames`: the heads of request and reply frames;
 //! - `table`: the rows of the grammar, as the code reads them;

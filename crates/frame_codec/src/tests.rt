@@ -264,7 +264,7 @@ fn wrong_reply(code: u8, op: u8, place: usize, before: u8, byte: u8) -> u8 {
 #[test]
 fn each_byte_of_a_reply_is_told_right_or_wrong(rt: HostRuntime) {
     for code in [0, 1, 2, 3, 4, 5, 6, 7, 8, 10, 11, 12, 13, 14, 255] {
-        for (op, high) in [(1, 0), (2, 0), (2, 1), (6, 0)] {
+        for (op, high) in [(1, 0), (2, 0), (2, 1), (3, 0), (4, 0), (5, 0), (6, 0)] {
             let mut head = [0; 28];
             head[0] = 1;
             head[1] = code;
