@@ -82,7 +82,13 @@ fn begins_with(bytes: &[u8], head: &[u8; 16]) -> bool
     requires { 16 ≤ length bytes.now }
     ensures { IsTrue result → take 16 bytes.now ≡ head.now }
 {
-    bytes[..HEAD_LEN] == head[..]
+    // A byte at a time, so that the compiler sees that all but the first stand where the head's numbers came from.
+    for at in 0..HEAD_LEN {
+        if bytes[at] != head[at] {
+            return false;
+        }
+    }
+    true
 }
 
 // The request whose head the bytes begin with, where they begin with a whole one.
