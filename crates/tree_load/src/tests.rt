@@ -62,7 +62,7 @@ fn a_seed_states_the_calls_of_another_implementation(rt: HostRuntime) {
 fn runs_end_with_the_counts_of_another_implementation(rt: HostRuntime) -> Result<(), Fail> {
     let alloc = rt.alloc();
     assert_eq!(rt; run(alloc, PAIRS, 0, 1, 0, PAIRS_OPENED)?, true);
-    assert_eq!(rt; run(alloc, PAIRS, 20000, 1, 0, PAIRS_COUNTS)?, true);
+    assert_eq!(rt; run(alloc, PAIRS, 2000, 1, 0, PAIRS_COUNTS)?, true);
     assert_eq!(rt; run(alloc, CLOSED, 10, 1, 10, CLOSED_COUNTS)?, true);
     assert_eq!(rt; run(alloc, KINDS, 150, 7, 0, KINDS_COUNTS)?, true);
     assert_eq!(rt; run(alloc, ENDING, 40, 3, 21, ENDING_COUNTS)?, true);

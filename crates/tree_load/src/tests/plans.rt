@@ -36,7 +36,7 @@ drbg = \"hmac-sha-256\"\n\
 interval = 100\n\
 parent = 1\n";
 
-// After no call, and after 20,000 of seed 1.
+// After no call, and after 2,000 of seed 1.
 pub(crate) const PAIRS_OPENED: &str = "\
 node 0: live 1 counter 2 seeds 1 gives 1\n\
 node 1: live 1 counter 2 seeds 1 gives 1\n\
@@ -46,12 +46,12 @@ source 0: taken 1104 blocks 2\n\
 source 1: taken 1104 blocks 2\n";
 
 pub(crate) const PAIRS_COUNTS: &str = "\
-node 0: live 1 counter 47 seeds 102 gives 5096\n\
-node 1: live 1 counter 29 seeds 100 gives 4978\n\
-node 2: live 1 counter 31 seeds 51 gives 5030\n\
-node 3: live 1 counter 98 seeds 50 gives 4997\n\
-source 0: taken 5144 blocks 103\n\
-source 1: taken 5064 blocks 101\n";
+node 0: live 1 counter 28 seeds 10 gives 477\n\
+node 1: live 1 counter 28 seeds 11 gives 527\n\
+node 2: live 1 counter 99 seeds 5 gives 498\n\
+node 3: live 1 counter 10 seeds 6 gives 509\n\
+source 0: taken 1464 blocks 11\n\
+source 1: taken 1504 blocks 12\n";
 
 // A node on a source and its child, none of which is instantiated.
 pub(crate) const CLOSED: &str = "\
