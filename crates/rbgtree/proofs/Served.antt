@@ -4,6 +4,7 @@ use Rattle.std.specs.Prelude.{Option, Err}
 use Rattle.tree_config.specs.Tree.{Tree}
 use Rattle.tree_rules.specs.History.{Entry, Opening}
 use Rattle.tree_rules.specs.Openings.{IsHistory}
+use Rattle.tree_core.specs.Made.{samples_in}
 use Rattle.tree_core.specs.Solo.{AreLong, IsCause, OpensAs, SoloView, StandAfter}
 use Rattle.tree_core.specs.declared.refusal.OpenRefusal.TheVariants as refusals
 use Rattle.session_core.specs.Answers.{Answered, AreRight}
@@ -49,18 +50,18 @@ module _ {S : Type 0} (told : S → Option (List ℕ)) (faults : S → ℕ) wher
     calls = is.calls;
   }
 
-  pub served : (p : Tree) (seeds : List (List ℕ)) (before now : Outside) (t t' : SoloView S) (max : ℕ) (end : End) → OpensTree told faults p seeds before.recordings now.recordings t → max ≡ 1048576
+  pub served : (reads : S → ℕ → Option (List ℕ) → S → Type 0) (p : Tree) (seeds : List (List ℕ)) (before now : Outside) (t t' : SoloView S) (max : ℕ) (end : End) → OpensTree told faults p seeds before.recordings now.recordings t → max ≡ 1048576
       → ((f : Opening) (o h : List Entry) → IsHistory f o h → f.plan ≡ t.plan → StandAfter told faults f o h t.nodes t.sources
-      → IsHeld (AreMade told faults f o h t.calls t') max end before.left now.left before.out now.out)
+      → IsHeld (AreMade told faults reads f o h (samples_in t.sources) t.calls t') max end before.left now.left before.out now.out)
       → Served p seeds before now end
-  served p seeds before now t t' max end tree is table = record {
+  served reads p seeds before now t t' max end tree is table = record {
     f = tree.f;
     o = tree.o;
     over = tree.over;
     opening = tree.opening;
-    session = held-weaker (AreMade told faults tree.f tree.o [] t.calls t') (AreRight 1 tree.f tree.o []) 1048576 end before.left now.left before.out now.out
-        (λ (es : List Answered) (made : AreMade told faults tree.f tree.o [] t.calls t' es). made.right)
-        (subst (λ (m : ℕ). IsHeld (AreMade told faults tree.f tree.o [] t.calls t') m end before.left now.left before.out now.out) is
+    session = held-weaker (AreMade told faults reads tree.f tree.o [] (samples_in t.sources) t.calls t') (AreRight 1 tree.f tree.o []) 1048576 end before.left now.left before.out now.out
+        (λ (es : List Answered) (made : AreMade told faults reads tree.f tree.o [] (samples_in t.sources) t.calls t' es). made.right)
+        (subst (λ (m : ℕ). IsHeld (AreMade told faults reads tree.f tree.o [] (samples_in t.sources) t.calls t') m end before.left now.left before.out now.out) is
         (table tree.f tree.o [] (record { opening = tree.opening; legal = tt }) tree.plan tree.stand));
   }
 

@@ -4,6 +4,7 @@ ghost use Rattle.rbg_bytes.specs.Streams.{HasCause, TakesAll};
 ghost use Rattle.frame_codec.specs.declared.frames.Request.{Request as Head};
 ghost use Rattle.tree_rules.specs.History.{Entry, Opening};
 ghost use Rattle.tree_rules.specs.Openings.{IsHistory};
+ghost use Rattle.tree_core.specs.Made.{samples_in};
 ghost use Rattle.tree_core.specs.Solo.{StandAfter};
 ghost use Rattle.session_core.specs.Ends.{malformed};
 ghost use Rattle.session_core.specs.Answers.{Answered};
@@ -30,7 +31,7 @@ fn answer<S: Samples, O: ByteSink>(
     requires room { length buffer.old ≡ 65568 }
     ensures replies { (r : Head) → inbox.old.asked ≡ Some r → (f : Opening) (o h : List Entry) → IsHistory f o h → f.plan ≡ tree.old.plan →
         StandAfter S.told S.faults f o h tree.old.nodes tree.old.sources →
-        WritesReply S.told S.faults f o h (record { head = r; string = inbox.old.decoder.string }) tree.new (O.out output.old) (O.out output.new) result }
+        WritesReply S.told S.faults S.reads f o h (samples_in tree.old.sources) (record { head = r; string = inbox.old.decoder.string }) tree.new (O.out output.old) (O.out output.new) result }
     ensures cause { HasCause (O.faults output.old) (O.faults output.new) result }
     ensures decoder { inbox.new.decoder ≡ inbox.old.decoder }
     ensures max_frames { inbox.new.max_frames ≡ inbox.old.max_frames }
@@ -42,7 +43,8 @@ fn answer<S: Samples, O: ByteSink>(
     let reply = tree.call(&call, inbox.string(), payload);
     let reply = reply_of(reply.code, reply.a, reply.b, reply.len);
     let end = put_reply(inbox, buffer, &reply);
-    output.write_all(&buffer[4..end])
+    let written = output.write_all(&buffer[4..end]);
+    written
 }
 
 // Tells the caller that a byte is bad.
@@ -66,8 +68,8 @@ fn take_frame<S: Samples, O: ByteSink>(
     requires some { 0 < length bytes.now }
     requires offset { inbox.old.decoder.offset + length bytes.now ≤ 2 ^ 62 }
     requires room { length buffer.old ≡ 65568 }
-    ensures goes { (b : Began) (taken : List ℕ) (es : List Answered) → Stands S.told S.faults b taken es (moment inbox.old frames.old tree.old) (O.out output.old) →
-        GoesOn S.told S.faults b taken bytes.now (moment inbox.new frames.new tree.new) (O.out output.new) result }
+    ensures goes { (b : Began S) (taken : List ℕ) (es : List Answered) → Stands S.told S.faults S.reads b taken es (moment inbox.old frames.old tree.old) (O.out output.old) →
+        GoesOn S.told S.faults S.reads b taken bytes.now (moment inbox.new frames.new tree.new) (O.out output.new) result }
     ensures ready { OnOk result (IsReady (moment inbox.new frames.new tree.new)) }
     ensures count { IfOk result (λ count. (0 < count) × (count ≤ length bytes.now) × (inbox.new.decoder.offset ≡ inbox.old.decoder.offset + count)) }
     ensures max { inbox.new.max_frames ≡ inbox.old.max_frames }
@@ -111,8 +113,8 @@ fn take_piece<S: Samples, O: ByteSink>(
     requires ready { IsReady (moment inbox.old frames.old tree.old) }
     requires offset { inbox.old.decoder.offset + length piece.now ≤ 2 ^ 62 }
     requires room { length buffer.old ≡ 65568 }
-    ensures goes { (b : Began) (taken : List ℕ) (es : List Answered) → Stands S.told S.faults b taken es (moment inbox.old frames.old tree.old) (O.out output.old) →
-        PassesOver S.told S.faults b (taken ++ piece.now) (moment inbox.new frames.new tree.new) (O.out output.new) result }
+    ensures goes { (b : Began S) (taken : List ℕ) (es : List Answered) → Stands S.told S.faults S.reads b taken es (moment inbox.old frames.old tree.old) (O.out output.old) →
+        PassesOver S.told S.faults S.reads b (taken ++ piece.now) (moment inbox.new frames.new tree.new) (O.out output.new) result }
     ensures ready { OnOk result (IsReady (moment inbox.new frames.new tree.new)) }
     ensures offset { OnOk result (inbox.new.decoder.offset ≡ inbox.old.decoder.offset + length piece.now) }
     ensures max { inbox.new.max_frames ≡ inbox.old.max_frames }
@@ -132,7 +134,8 @@ fn take_piece<S: Samples, O: ByteSink>(
 
 /// Answers the frames of a source from a tree, each before the next is decoded, at most as many as the buffers allow, and says how that
 /// ended. A read asks for 65,536 bytes; each reply is one write. No memory is taken. What the tree made of it stands in the table of ends:
-/// the replies are those of entries, one for each frame that was read, in order, with which the tree's history goes on.
+/// the replies are those of entries, one for each frame that was read, in order, with which the tree's history goes on; and the reads of
+/// the sources that stand in all of them are exactly those that were made, also where samples tell nothing.
 pub fn session_solo<S: Samples, I: ByteSource, O: ByteSink>(
     buffers: &mut Session,
     tree: &mut SoloTree<S>,
@@ -142,7 +145,7 @@ pub fn session_solo<S: Samples, I: ByteSource, O: ByteSink>(
     requires room { length buffers.old.reply.items ≡ 65568 }
     requires calls { tree.old.calls + buffers.old.inbox.max_frames ≤ 2 ^ 40 }
     ensures table { (f : Opening) (o h : List Entry) → IsHistory f o h → f.plan ≡ tree.old.plan → StandAfter S.told S.faults f o h tree.old.nodes tree.old.sources →
-        IsHeld (AreMade S.told S.faults f o h tree.old.calls tree.new) buffers.old.inbox.max_frames result (I.left input.old) (I.left input.new) (O.out output.old) (O.out output.new) }
+        IsHeld (AreMade S.told S.faults S.reads f o h (samples_in tree.old.sources) tree.old.calls tree.new) buffers.old.inbox.max_frames result (I.left input.old) (I.left input.new) (O.out output.old) (O.out output.new) }
     ensures read { HasReadCause (I.faults input.old) (I.faults input.new) result }
     ensures write { HasWriteCause (O.faults output.old) (O.faults output.new) result }
     ensures plan { tree.new.plan ≡ tree.old.plan }

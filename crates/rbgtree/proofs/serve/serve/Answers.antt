@@ -19,7 +19,7 @@ returns-in-Ok-open_tree-clause-ran g c =
     let seeds : List (List ℕ) = map (λ s. s.items) c.args.seeds.items in
     subst (λ (s : Status). RanOver g.W.Samples.Samples.told g.W.Samples.Samples.faults c.args.plan seeds before now s) (sym c.of.ensures)
     (ran_served g.W.Samples.Samples.told g.W.Samples.Samples.faults c.args.plan seeds before now c.session_solo.result
-    (served g.W.Samples.Samples.told g.W.Samples.Samples.faults c.args.plan seeds before now c.in-Ok-open_tree.tree c.session_solo.new.tree c.in-Ok.buffers.inbox.max_frames c.session_solo.result
+    (served g.W.Samples.Samples.told g.W.Samples.Samples.faults g.W.Samples.Samples.reads c.args.plan seeds before now c.in-Ok-open_tree.tree c.session_solo.new.tree c.in-Ok.buffers.inbox.max_frames c.session_solo.result
     c.in-Ok-open_tree.ensures.tree c.in-Ok.ensures.max_frames c.session_solo.ensures.table))
 
 pub returns-in-Ok-open_tree-clause-cause : goal.returns-in-Ok-open_tree-clause-cause

@@ -29,6 +29,7 @@ returns-clause-replies g c r is f o h history plan stand =
         is = record { caller_is = on.caller_is; call = on.call_is ∙ is_call c.args.inbox.now.asked r c.next_call-call.result is c.next_call-call.ensures.call; string = on.string_is ∙ c.string.ensures };
         history = on.history;
         stand = on.stand;
+        made = on.made;
       },
-      subst (λ (bytes : List ℕ). TakesAll (g.O.ByteSink.out c.args.output.now) (g.O.ByteSink.out c.write_all.new.self) c.write_all.result bytes) frame c.write_all.ensures.bytes,
+      subst (λ (bytes : List ℕ). TakesAll (g.O.ByteSink.out c.args.output.now) (g.O.ByteSink.out c.write_all-written.new.self) c.write_all-written.result bytes) frame c.write_all-written.ensures.bytes,
     )

@@ -1,6 +1,7 @@
 use Rattle.std.proofs.Common.{◌≡◌, ◌<◌, [], take, length, ◌∙◌, ◌++◌, List, ℕ, ap, subst, arith, refl, true, false}
 use Rattle.std.specs.Prelude.{Vec}
 use Rattle.std.specs.declared.alloc.Global.{Global}
+use Rattle.tree_core.specs.Made.{samples_in}
 use Rattle.session_core.specs.Answers.{Answered}
 use Rattle.session_core.specs.Session.{Began, Stands, Stops, moment}
 use Rattle.std.proofs.lemmas.List.{length-take, with_items_is}
@@ -9,18 +10,18 @@ use Rattle.session_core.proofs.solo.session_solo.Goals as goal
 
 pub returns-in-Err-clause-table : goal.returns-in-Err-clause-table
 returns-in-Err-clause-table g c f o h history plan stand =
-    session-failed g.S.Samples.told g.S.Samples.faults _ _ _ _ _ (c.reads.invariant.6 f o h history plan stand) _ c.fault_count.result c.in-Err.ensures.bytes c.reads.invariant.0.fewer
+    session-failed g.S.Samples.told g.S.Samples.faults g.S.Samples.reads _ _ _ _ _ (c.reads.invariant.6 f o h history plan stand) _ c.fault_count.result c.in-Err.ensures.bytes c.reads.invariant.0.fewer
 
 pub returns-then-inside-clause-table : goal.returns-then-inside-clause-table
 returns-then-inside-clause-table g c f o h history plan stand =
     let none : take c.in-Ok.count c.read.new.self ≡ [] = rw (c.if-count-eq0.true) refl in
-    session-cut g.S.Samples.told g.S.Samples.faults _ _ _ _ _ (c.reads.invariant.6 f o h history plan stand) _ _ c.offset.result c.offset.ensures c.in-Ok.ensures.bytes.0 none
+    session-cut g.S.Samples.told g.S.Samples.faults g.S.Samples.reads _ _ _ _ _ (c.reads.invariant.6 f o h history plan stand) _ _ c.offset.result c.offset.ensures c.in-Ok.ensures.bytes.0 none
     (c.in-Ok.ensures.bytes.1 c.if-count-eq0.true (omega (arith, c.read.ensures.long))) c.reads.invariant.0.fewer (c.if-inside.ensures.0 refl)
 
 pub returns-then-count-eq0-clause-table : goal.returns-then-count-eq0-clause-table
 returns-then-count-eq0-clause-table g c f o h history plan stand =
     let none : take c.in-Ok.count c.read.new.self ≡ [] = rw (c.if-count-eq0.true) refl in
-    session-read g.S.Samples.told g.S.Samples.faults _ _ _ _ _ (c.reads.invariant.6 f o h history plan stand) _ _ c.in-Ok.ensures.bytes.0 none
+    session-read g.S.Samples.told g.S.Samples.faults g.S.Samples.reads _ _ _ _ _ (c.reads.invariant.6 f o h history plan stand) _ _ c.in-Ok.ensures.bytes.0 none
     (c.in-Ok.ensures.bytes.1 c.if-count-eq0.true (omega (arith, c.read.ensures.long))) c.reads.invariant.0.fewer
     (λ (some : 0 < length c.reads.buffers.inbox.decoder.rest). let contrary : false ≡ true = c.if-inside.ensures.1 some in absurd cc)
 
@@ -32,9 +33,9 @@ take_piece-requires-clause-offset g c =
 pub returns-in-Err-take_piece-clause-table : goal.returns-in-Err-take_piece-clause-table
 returns-in-Err-take_piece-clause-table g c f o h history plan stand =
     let k = c.reads.invariant.6 f o h history plan stand in
-    let b : Began = record { f = f; o = o; h = h; calls = c.args.tree.now.calls; max = c.args.buffers.now.inbox.max_frames; out = g.O.ByteSink.out c.args.output.now } in
-    session-ended g.S.Samples.told g.S.Samples.faults _ _ _ _ _ k _ _ _ c.in-Err-take_piece.end c.take_piece.new.tree c.in-Ok.ensures.bytes.0
-    (subst (λ (x : List ℕ). Stops g.S.Samples.told g.S.Samples.faults b (k.taken ++ x) c.take_piece.new.tree (g.O.ByteSink.out c.take_piece.new.output) c.in-Err-take_piece.end) c.front-piece.ensures (c.in-Err-take_piece.ensures.goes b k.taken k.es k.stands))
+    let b : Began _ = record { f = f; o = o; h = h; samples = samples_in c.args.tree.now.sources; calls = c.args.tree.now.calls; max = c.args.buffers.now.inbox.max_frames; out = g.O.ByteSink.out c.args.output.now } in
+    session-ended g.S.Samples.told g.S.Samples.faults g.S.Samples.reads _ _ _ _ _ k _ _ _ c.in-Err-take_piece.end c.take_piece.new.tree c.in-Ok.ensures.bytes.0
+    (subst (λ (x : List ℕ). Stops g.S.Samples.told g.S.Samples.faults g.S.Samples.reads b (k.taken ++ x) c.take_piece.new.tree (g.O.ByteSink.out c.take_piece.new.output) c.in-Err-take_piece.end) c.front-piece.ensures (c.in-Err-take_piece.ensures.goes b k.taken k.es k.stands))
 
 pub reads-smaller : goal.reads-smaller
 reads-smaller g c =
@@ -58,7 +59,7 @@ reads-init g c = (
   refl,
   refl,
   refl,
-  λ f o h history plan stand. taken-none g.S.Samples.told g.S.Samples.faults f o h _ _ _ _ _ _ c.restart.ensures.max_frames c.restart.ensures.reads history plan stand,
+  λ f o h history plan stand. taken-none g.S.Samples.told g.S.Samples.faults g.S.Samples.reads f o h _ _ _ _ _ _ c.restart.ensures.max_frames c.restart.ensures.reads history plan stand,
 )
 
 pub reads-preserved : goal.reads-preserved
@@ -71,7 +72,7 @@ reads-preserved g c = (
   c.in_default.ensures.cause ∙ c.reads.invariant.5,
   λ f o h history plan stand.
       let k = c.reads.invariant.6 f o h history plan stand in
-      let b : Began = record { f = f; o = o; h = h; calls = c.args.tree.now.calls; max = c.args.buffers.now.inbox.max_frames; out = g.O.ByteSink.out c.args.output.now } in
-      taken-more g.S.Samples.told g.S.Samples.faults _ _ _ _ (moment c.reads.buffers.inbox c.reads.frames c.reads.tree) (moment c.take_piece.new.inbox c.take_piece.new.frames c.take_piece.new.tree) _ _ _ k c.in-Ok.ensures.bytes.0
-      (subst (λ (x : List ℕ). (es : List Answered) × Stands g.S.Samples.told g.S.Samples.faults b (k.taken ++ x) es (moment c.take_piece.new.inbox c.take_piece.new.frames c.take_piece.new.tree) (g.O.ByteSink.out c.take_piece.new.output)) c.front-piece.ensures (c.in_default.ensures.goes b k.taken k.es k.stands)),
+      let b : Began _ = record { f = f; o = o; h = h; samples = samples_in c.args.tree.now.sources; calls = c.args.tree.now.calls; max = c.args.buffers.now.inbox.max_frames; out = g.O.ByteSink.out c.args.output.now } in
+      taken-more g.S.Samples.told g.S.Samples.faults g.S.Samples.reads _ _ _ _ (moment c.reads.buffers.inbox c.reads.frames c.reads.tree) (moment c.take_piece.new.inbox c.take_piece.new.frames c.take_piece.new.tree) _ _ _ k c.in-Ok.ensures.bytes.0
+      (subst (λ (x : List ℕ). (es : List Answered) × Stands g.S.Samples.told g.S.Samples.faults g.S.Samples.reads b (k.taken ++ x) es (moment c.take_piece.new.inbox c.take_piece.new.frames c.take_piece.new.tree) (g.O.ByteSink.out c.take_piece.new.output)) c.front-piece.ensures (c.in_default.ensures.goes b k.taken k.es k.stands)),
 )

@@ -14,7 +14,7 @@ returns-in-More-clause-goes g c b taken es st =
     let f : HasFed taken (asked_of es) c.args.bytes.now c.feed-count.result.0 c.args.inbox.now.decoder c.feed-count.result.1 d =
     record { reads = st.reads; within = c.feed-count.ensures.within; offset = c.feed-count.ensures.offset; feeds = c.feed-count.ensures.step } in (
       es,
-      go_more g.S.Samples.told g.S.Samples.faults b taken c.args.bytes.now es (moment c.args.inbox.now c.args.frames.now c.args.tree.now) _ st c.feed-count.result.0 d _
+      go_more g.S.Samples.told g.S.Samples.faults g.S.Samples.reads b taken c.args.bytes.now es (moment c.args.inbox.now c.args.frames.now c.args.tree.now) _ st c.feed-count.result.0 d _
           (fed-all taken (asked_of es) c.args.bytes.now _ _ _ _ f c.in-More.is) (fed-more taken (asked_of es) c.args.bytes.now _ _ _ _ f c.in-More.is) c.feed-count.ensures.max_frames,
     )
 
@@ -60,7 +60,7 @@ returns-then-frames-max_frames-clause-goes g c b taken es st =
     record { reads = st.reads; within = c.feed-count.ensures.within; offset = c.feed-count.ensures.offset; feeds = c.feed-count.ensures.step } in
     let read = fed-whole taken (asked_of es) c.args.bytes.now _ _ _ _ c.in-Whole.field-0 f c.in-Whole.is in
     let on = c.in-Ok-answer.ensures.replies c.in-Whole.field-0 (c.feed-count.ensures.asked ∙ ap whole_of c.in-Whole.is) b.f b.o (b.h ++ entries_of es) st.history st.plan st.stand in
-    go_quota g.S.Samples.told g.S.Samples.faults b taken c.args.bytes.now es (moment c.args.inbox.now c.args.frames.now c.args.tree.now) _ st
+    go_quota g.S.Samples.told g.S.Samples.faults g.S.Samples.reads b taken c.args.bytes.now es (moment c.args.inbox.now c.args.frames.now c.args.tree.now) _ st
     (record { head = c.in-Whole.field-0; string = d.string }) c.answer.new.tree on.0 c.answer.ensures.calls c.feed-count.result.0 d _ read.0 read.1
     (c.if-frames-max_frames.true ∙ (c.max_frames.ensures.max_frames ∙ (c.answer.ensures.max_frames ∙ c.feed-count.ensures.max_frames))) on.1
 
@@ -74,7 +74,7 @@ returns-else-frames-max_frames-clause-goes g c b taken es st =
     let on = c.in-Ok-answer.ensures.replies c.in-Whole.field-0 (c.feed-count.ensures.asked ∙ ap whole_of c.in-Whole.is) b.f b.o (b.h ++ entries_of es) st.history st.plan st.stand in
     let reads = subst (λ (x : Begun). Reads (taken ++ take c.feed-count.result.0 c.args.bytes.now) (asked_of es ++ asked ∷ []) x) (sym c.answer.ensures.decoder) read.0 in (
       _,
-      go_whole g.S.Samples.told g.S.Samples.faults b taken c.args.bytes.now es (moment c.args.inbox.now c.args.frames.now c.args.tree.now) _ st
+      go_whole g.S.Samples.told g.S.Samples.faults g.S.Samples.reads b taken c.args.bytes.now es (moment c.args.inbox.now c.args.frames.now c.args.tree.now) _ st
           asked c.answer.new.tree on.0 c.answer.ensures.calls c.feed-count.result.0 c.answer.new.inbox.decoder _ _ reads (c.answer.ensures.max_frames ∙ c.feed-count.ensures.max_frames) c.answer.ensures.plan on.1,
     )
 
@@ -85,7 +85,7 @@ returns-in-Err-answer-clause-goes g c b taken es st =
     record { reads = st.reads; within = c.feed-count.ensures.within; offset = c.feed-count.ensures.offset; feeds = c.feed-count.ensures.step } in
     let read = fed-whole taken (asked_of es) c.args.bytes.now _ _ _ _ c.in-Whole.field-0 f c.in-Whole.is in
     let on = c.in-Err-answer.ensures.replies c.in-Whole.field-0 (c.feed-count.ensures.asked ∙ ap whole_of c.in-Whole.is) b.f b.o (b.h ++ entries_of es) st.history st.plan st.stand in
-    go_unanswered g.S.Samples.told g.S.Samples.faults b taken c.args.bytes.now es (moment c.args.inbox.now c.args.frames.now c.args.tree.now) _ st
+    go_unanswered g.S.Samples.told g.S.Samples.faults g.S.Samples.reads b taken c.args.bytes.now es (moment c.args.inbox.now c.args.frames.now c.args.tree.now) _ st
     (record { head = c.in-Whole.field-0; string = d.string }) c.answer.new.tree on.0 c.answer.ensures.calls c.feed-count.result.0 c.fault_count-in-Err-answer.result d _ read.0 read.1 c.requires.ready.fewer on.1
 
 pub returns-in-Ok-clause-goes : goal.returns-in-Ok-clause-goes
@@ -94,7 +94,7 @@ returns-in-Ok-clause-goes g c b taken es st =
     let f : HasFed taken (asked_of es) c.args.bytes.now c.feed-count.result.0 c.args.inbox.now.decoder c.feed-count.result.1 d =
     record { reads = st.reads; within = c.feed-count.ensures.within; offset = c.feed-count.ensures.offset; feeds = c.feed-count.ensures.step } in
     let bad = fed-bad taken (asked_of es) c.args.bytes.now _ _ _ _ c.in-Bad.offset c.in-Bad.why f c.in-Bad.is in
-    go_bad g.S.Samples.told g.S.Samples.faults b taken c.args.bytes.now es (moment c.args.inbox.now c.args.frames.now c.args.tree.now) _ st c.in-Bad.offset c.in-Bad.why _ bad c.requires.ready.fewer c.in-Ok.ensures.bytes
+    go_bad g.S.Samples.told g.S.Samples.faults g.S.Samples.reads b taken c.args.bytes.now es (moment c.args.inbox.now c.args.frames.now c.args.tree.now) _ st c.in-Bad.offset c.in-Bad.why _ bad c.requires.ready.fewer c.in-Ok.ensures.bytes
 
 pub returns-in-Err-clause-goes : goal.returns-in-Err-clause-goes
 returns-in-Err-clause-goes g c b taken es st =
@@ -102,4 +102,4 @@ returns-in-Err-clause-goes g c b taken es st =
     let f : HasFed taken (asked_of es) c.args.bytes.now c.feed-count.result.0 c.args.inbox.now.decoder c.feed-count.result.1 d =
     record { reads = st.reads; within = c.feed-count.ensures.within; offset = c.feed-count.ensures.offset; feeds = c.feed-count.ensures.step } in
     let bad = fed-bad taken (asked_of es) c.args.bytes.now _ _ _ _ c.in-Bad.offset c.in-Bad.why f c.in-Bad.is in
-    go_untold g.S.Samples.told g.S.Samples.faults b taken c.args.bytes.now es (moment c.args.inbox.now c.args.frames.now c.args.tree.now) _ st c.in-Bad.offset c.in-Bad.why c.fault_count.result _ bad c.requires.ready.fewer c.in-Err.ensures.bytes
+    go_untold g.S.Samples.told g.S.Samples.faults g.S.Samples.reads b taken c.args.bytes.now es (moment c.args.inbox.now c.args.frames.now c.args.tree.now) _ st c.in-Bad.offset c.in-Bad.why c.fault_count.result _ bad c.requires.ready.fewer c.in-Err.ensures.bytes
