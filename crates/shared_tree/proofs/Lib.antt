@@ -14,3 +14,4 @@ pub mod Answering
 pub mod Reasoning
 pub mod Ends
 pub mod Ready
+pub mod Holding

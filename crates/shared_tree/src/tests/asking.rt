@@ -14,6 +14,13 @@ pub(crate) struct Said {
     pub(crate) bytes: [u8; 32],
 }
 
+impl Said {
+    // Whether it is Done, with these bytes in front.
+    pub(crate) fn gives(&self, want: &[u8; 32]) -> bool {
+        self.code == 0 && self.bytes == *want
+    }
+}
+
 // So many bytes of a node.
 pub(crate) fn generate(node: u16, pr: bool) -> Call {
     Call::Generate {

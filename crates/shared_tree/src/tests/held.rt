@@ -26,19 +26,46 @@ impl Score {
     }
 }
 
-// Makes a call that waits, and is Done.
+// What nodes 2, 3 and 1 give, by an independent implementation.
+const OF_TWO: [u8; 32] = [
+    0xfb, 0x91, 0x3f, 0xf3, 0x19, 0x7e, 0x9f, 0xab, 0x6c, 0x82, 0xed, 0xd5, 0x0a, 0xa6, 0x01, 0x61,
+    0xea, 0xcb, 0xba, 0xbe, 0x7a, 0xc4, 0xbe, 0x46, 0x3e, 0x08, 0x31, 0xb0, 0x7b, 0xba, 0x3a, 0x25,
+];
+
+const OF_THREE: [u8; 32] = [
+    0xa4, 0x5d, 0x69, 0x4a, 0x73, 0x65, 0x02, 0x67, 0x97, 0x3a, 0x65, 0x00, 0xd6, 0x2a, 0x53, 0x68,
+    0x50, 0x02, 0x1d, 0x3f, 0x75, 0x9b, 0xb5, 0xee, 0xec, 0xbc, 0x04, 0xa5, 0xd9, 0x6b, 0xde, 0x19,
+];
+
+const OF_ONE: [u8; 32] = [
+    0x95, 0xba, 0xf7, 0x64, 0x5d, 0x4d, 0x13, 0x6f, 0xc6, 0xd0, 0xb3, 0x9a, 0x31, 0x39, 0xe0, 0x68,
+    0x51, 0xc6, 0x4e, 0x15, 0x1e, 0x64, 0x80, 0xee, 0xcd, 0x38, 0x71, 0x50, 0x6d, 0xc3, 0xd0, 0x89,
+];
+
+// Whether each node is live afterwards, its reseed counter, seeds and gives, and the samples taken and blocks of each source.
+const NODES: [(bool, u64, u64, u64); 4] = [
+    (true, 2, 2, 2),
+    (true, 3, 1, 2),
+    (true, 2, 2, 1),
+    (true, 2, 1, 1),
+];
+
+const SOURCES: [(u64, u64); 2] = [(1144, 3), (1104, 2)];
+
+// Makes a call that waits, is Done, and gives these bytes.
 fn is_done<R: Wait>(
     rt: &R,
     tree: &SharedTree<Gated>,
     pass: &mut TreePass<Gated>,
     call: Call,
+    want: &[u8; 32],
 ) -> bool
     requires pass { IsPassOf tree.now pass.old }
     ensures pass { IsPassOf tree.entry.now pass.new }
     ensures opening { pass.new.view.opening ≡ pass.old.view.opening }
 {
     match ask(rt, tree, pass, call) {
-        Some(said) => said.code == 0,
+        Some(said) => said.gives(want),
         None => false,
     }
 }
@@ -60,14 +87,19 @@ fn is_busy(tree: &SharedTree<Gated>, pass: &mut TreePass<Gated>, call: Call, slo
     }
 }
 
-// Makes a call that doesn't wait, and is Done.
-fn is_done_at_once(tree: &SharedTree<Gated>, pass: &mut TreePass<Gated>, call: Call) -> bool
+// The same, but it doesn't wait.
+fn is_done_at_once(
+    tree: &SharedTree<Gated>,
+    pass: &mut TreePass<Gated>,
+    call: Call,
+    want: &[u8; 32],
+) -> bool
     requires pass { IsPassOf tree.now pass.old }
     ensures pass { IsPassOf tree.entry.now pass.new }
     ensures opening { pass.new.view.opening ≡ pass.old.view.opening }
 {
     match try_ask(tree, pass, call) {
-        Some(Ok(said)) => said.code == 0,
+        Some(Ok(said)) => said.gives(want),
         _ => false,
     }
 }
@@ -85,12 +117,12 @@ fn play<R: Wait>(
     ensures opening { pass.new.view.opening ≡ pass.old.view.opening }
 {
     if pass.caller() == 1 {
-        score.add(is_done(rt, tree, pass, generate(2, true)));
+        score.add(is_done(rt, tree, pass, generate(2, true), &OF_TWO));
         return;
     }
     score.add(gate.is_reached());
-    score.add(is_done(rt, tree, pass, generate(3, false)));
-    score.add(is_done_at_once(tree, pass, generate(1, false)));
+    score.add(is_done(rt, tree, pass, generate(3, false), &OF_THREE));
+    score.add(is_done_at_once(tree, pass, generate(1, false), &OF_ONE));
     score.add(is_busy(tree, pass, generate(2, false), 2));
     score.add(is_busy(tree, pass, generate(0, false), 0));
     gate.open();
@@ -149,5 +181,15 @@ fn branches_do_not_wait_for_each_other(rt: HostRuntime) -> Result<(), Fail> {
         return Err(Fail::from("no memory"));
     };
     assert_eq!(rt; (closed.calls, closed.tree.calls()), (3, 0));
+    for node in 0..closed.tree.plan().nodes() {
+        let counts = closed.tree.node_counts(node);
+        let got = (counts.live, counts.counter, counts.seeds, counts.gives);
+        assert_eq!(rt; Some(&got), NODES.get(usize::from(node)));
+    }
+    for source in 0..closed.tree.plan().sources() {
+        let counts = closed.tree.source_counts(source);
+        let got = (counts.taken, counts.blocks);
+        assert_eq!(rt; Some(&got), SOURCES.get(usize::from(source)));
+    }
     Ok(())
 }
