@@ -5,3 +5,7 @@ pub mod Longer
 pub mod Stepping
 pub mod Meanings
 pub mod Blocks
+pub mod Shapes
+pub mod Reaching
+pub mod Samples
+pub mod Telling

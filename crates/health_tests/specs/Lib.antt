@@ -3,3 +3,4 @@ pub mod Windows
 pub mod Numbers
 pub mod Blocks
 pub mod Stands
+pub mod Left

@@ -1,5 +1,5 @@
 // The tests that go from sample to sample.
-ghost use Rattle.std.specs.Prelude.{◌≡◌, ◌<◌, ℕ, List, [], ◌∷◌, ◌++◌, length, OnSome, IfSome, IfNone};
+ghost use Rattle.std.specs.Prelude.{◌≡◌, ◌<◌, ℕ, List, [], ◌∷◌, ◌++◌, length, OnSome, IfSome, IfNone, is_some};
 
 use crate::numbers::Tail;
 use crate::{Alarm, Cutoffs, Test};
@@ -27,6 +27,7 @@ impl Tests {
     ghost use Rattle.health_tests.specs.Windows.{first_alarm, alarm_in};
     ghost use Rattle.health_tests.specs.Numbers.{no_tail, tail_step, tail_after, alarm_by, alarm_from};
     ghost use Rattle.health_tests.specs.Stands.{StandsFor, StandsForSome, placed};
+    ghost use Rattle.health_tests.specs.Left.{is_left};
 
     /// Tests that have seen no sample.
     pub fn fresh(cutoffs: Cutoffs) -> Tests
@@ -89,5 +90,27 @@ impl Tests {
             self.tail = next;
         }
         answer
+    }
+
+    /// The five numbers that the tests keep of the samples before.
+    pub fn numbers(&self) -> Tail
+        ensures { result ≡ self.now.tail }
+    {
+        self.tail
+    }
+
+    /// Tests that stand where these numbers say, for a caller that keeps them elsewhere. There are none where no list of samples
+    /// without an alarm leaves such numbers.
+    pub fn resumed(cutoffs: Cutoffs, tail: Tail) -> Option<Tests>
+        ensures value { IfSome result (λ t. t ≡ record { cutoffs = cutoffs; tail = tail }) }
+        ensures refused { IfNone result (¬ StandsForSome (record { cutoffs = cutoffs; tail = tail })) }
+        ensures test { is_some result ≡ is_left cutoffs tail }
+    {
+        // For its clause alone.
+        cutoffs.are_sound();
+        if !tail.is_left(cutoffs) {
+            return None;
+        }
+        Some(Tests { cutoffs, tail })
     }
 }

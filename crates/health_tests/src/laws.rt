@@ -1,10 +1,13 @@
 // Laws on lists of samples and their numbers: each is a function without a body, whose contract is the law. No program calls
 // them; they tie the definitions to one another, and to what is built above them.
-ghost use Rattle.std.specs.Prelude.{◌≡◌, ◌<◌, ◌≤◌, ◌+◌, ◌-◌, ◌*◌, ◌↔◌, ℕ, List, [], ◌++◌, length, slice_index, IsTrue, Option, None, Some};
+ghost use Rattle.std.specs.Prelude.{◌≡◌, ◌<◌, ◌≤◌, ◌+◌, ◌-◌, ◌*◌, ◌↔◌, ℕ, List, [], ◌++◌, length, slice_index, IsTrue, Option, None, Some, true};
 ghost use Rattle.health_tests.specs.declared.windows.Alarm.{Alarm};
-ghost use Rattle.health_tests.specs.Cutoffs.{Limits};
+ghost use Rattle.health_tests.specs.Cutoffs.{Limits, AreSound};
 ghost use Rattle.health_tests.specs.Windows.{repeats, window_start, first_alarm, alarm_in, further, IsFirst};
 ghost use Rattle.health_tests.specs.Numbers.{tail_of, no_tail, tail_after, alarm_from};
+ghost use Rattle.health_tests.specs.declared.numbers.Tail.{Tail};
+ghost use Rattle.health_tests.specs.Stands.{StandsForSome};
+ghost use Rattle.health_tests.specs.Left.{is_left};
 
 /// A repetition at a place says that the samples up to it, as many as the cutoff, are all like its own (SP 800-90B 4.4.1).
 pub fn repetition_is_a_run()
@@ -47,4 +50,9 @@ pub fn numbers_tell()
 pub fn numbers_are_enough()
     ensures { (c : Limits) (x y : List ℕ) → first_alarm c x ≡ None →
         first_alarm c (x ++ y) ≡ further (length x) (alarm_from c (tail_of c.window x) y) }
+{}
+
+/// Exactly the numbers that the test `is_left` passes are those of some list of samples without an alarm, at sound cutoffs.
+pub fn samples_leave_numbers()
+    ensures { (c : Limits) (t : Tail) → AreSound c → ((is_left c t ≡ true) ↔ StandsForSome (record { cutoffs = c; tail = t })) }
 {}

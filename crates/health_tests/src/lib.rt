@@ -20,6 +20,7 @@ pub use continuous::Tests;
 pub use cutoffs::{BadCutoff, Cut, Cutoffs, rct_cutoff};
 pub use laws::{
     first_alarm_goes_on, first_alarm_is_least, numbers_are_enough, numbers_begin, numbers_grow,
-    numbers_tell, repetition_is_a_run, windows_follow,
+    numbers_tell, repetition_is_a_run, samples_leave_numbers, windows_follow,
 };
+pub use numbers::Tail;
 pub use windows::{Alarm, Test, crowded, first_alarm, repeats};

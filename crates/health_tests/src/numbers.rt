@@ -1,6 +1,7 @@
 // The five numbers that the tests keep of a list of samples.
-ghost use Rattle.std.specs.Prelude.{◌≡◌, ◌<◌, ◌-◌, ◌^◌, true, false, length, IfSome, IfNone, OnSome};
+ghost use Rattle.std.specs.Prelude.{◌≡◌, ◌<◌, ◌+◌, ◌-◌, ◌*◌, ◌^◌, true, false, length, IfSome, IfNone, OnSome};
 ghost use Rattle.health_tests.specs.Blocks.{AllDiffer};
+ghost use Rattle.health_tests.specs.Left.{filled, can_spread};
 
 use crate::{Alarm, Cutoffs, Test};
 
@@ -20,6 +21,7 @@ pub struct Tail {
 
 impl Tail {
     ghost use Rattle.health_tests.specs.Blocks.{GoesPast};
+    ghost use Rattle.health_tests.specs.Left.{is_left, is_blank, is_begun, fits_window};
     ghost use Rattle.health_tests.specs.Numbers.{IsBelow, tail_step, tail_after, alarm_by, alarm_from};
 
     /// The numbers of no sample.
@@ -213,6 +215,48 @@ impl Tail {
             None
         }
     }
+
+    /// Whether some list of samples without an alarm leaves these numbers.
+    pub fn is_left(&self, cutoffs: Cutoffs) -> bool
+        ensures { result ≡ is_left cutoffs self.now }
+    {
+        self.is_blank() || self.is_begun(cutoffs)
+    }
+
+    // Whether they are the numbers of no sample.
+    fn is_blank(&self) -> bool
+        ensures { result ≡ is_blank self.now }
+    {
+        self.run == 0 && self.place == 0 && self.equal == 0 && self.last == 0 && self.first == 0
+    }
+
+    // Whether they are the numbers of one sample or more.
+    fn is_begun(&self, cutoffs: Cutoffs) -> bool
+        ensures { result ≡ is_begun cutoffs self.now }
+    {
+        let (rct, window) = (cutoffs.rct(), u32::from(cutoffs.window()));
+        self.run >= 1
+            && self.run < rct
+            && self.place < window
+            && self.equal < cutoffs.apt()
+            && self.fits_window(rct, window, filled(window, self.place))
+    }
+
+    // Whether the run, the count, the last sample and the first fit a window with so many samples so far.
+    fn fits_window(&self, rct: u32, window: u32, many: u32) -> bool
+        ensures { result ≡ fits_window rct window many self.now }
+    {
+        let equal = u32::from(self.equal);
+        if many <= self.run {
+            self.last == self.first
+                && equal == many
+                && u64::from(self.run) < u64::from(many) + u64::from(window)
+        } else if self.last == self.first {
+            can_spread(rct, many - 1 - self.run, equal.saturating_sub(self.run))
+        } else {
+            can_spread(rct, many - self.run, equal)
+        }
+    }
 }
 
 // Whether a sample of a block is like the one before it, of which the first is given, or like a certain one.
@@ -228,4 +272,25 @@ fn is_like(before: u8, certain: u8, block: &[u8]) -> bool
         last = block[i];
     }
     like
+}
+
+// How many samples the last sample's window has so far.
+fn filled(window: u32, place: u32) -> u32
+    ensures { result ≡ filled window place }
+{
+    if place == 0 { window } else { place }
+}
+
+// Whether `like` samples can stand among so many, the first of which is one of them, with no run of them that reaches the cutoff.
+fn can_spread(rct: u32, many: u32, like: u32) -> bool
+    ensures { result ≡ can_spread rct many like }
+{
+    1 <= like && like <= many && u64::from(many) < rows(many - like, rct)
+}
+
+// As many rows as there are unlike samples, and one more, each as long as the cutoff.
+fn rows(unlike: u32, rct: u32) -> u64
+    ensures { result ≡ unlike * rct + rct }
+{
+    u64::from(unlike) * u64::from(rct) + u64::from(rct)
 }
