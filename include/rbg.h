@@ -1,4 +1,5 @@
-/* rbg.h: HMAC_DRBG and CTR_DRBG (NIST SP 800-90A Rev. 1) as a library without heap, threads or system calls, for C99 and C++.
+/* rbg.h: HMAC_DRBG and CTR_DRBG (NIST SP 800-90A Rev. 1) and the continuous health tests (SP 800-90B 4.4) as a library without heap,
+ * threads or system calls, for C99 and C++.
  *
  * Each function is proved to be the standard's for every call that keeps these rules, which no proof in the library can see:
  *
@@ -11,7 +12,7 @@
  * the new process has to reseed before it asks for more.
  *
  * A call answers a status. RBG_DONE says that it did its work. Every other one is a refusal, which leaves the state, the counter and
- * the output as they were. Where several causes stand together the first is told, in the order that is given at the call.
+ * the output as they were (an alarm of a health test is no refusal: it is kept). Where several causes stand together the first is told, in the order that is given at the call.
  */
 #ifndef RBG_H
 #define RBG_H
@@ -48,6 +49,16 @@ extern "C" {
 #define RBG_LONG_NONCE UINT32_C(6)      /* the nonce has more than 65,536 bytes */
 #define RBG_LONG_STRING UINT32_C(7)     /* the personalization string or additional input has more than 65,536 bytes */
 #define RBG_LONG_OUTPUT UINT32_C(8)     /* more than 65,536 bytes were asked for */
+
+/* Statuses of the health tests. */
+#define RBG_BAD_TESTS UINT32_C(9)   /* no begin or step leaves such numbers */
+#define RBG_ALARMED UINT32_C(10)    /* the tests alarmed before, and are to be begun anew */
+#define RBG_BAD_RCT UINT32_C(11)    /* the cutoff of the repetition count test is below 2 */
+#define RBG_BAD_WINDOW UINT32_C(12) /* the window is neither 512 nor 1024 */
+#define RBG_BAD_APT UINT32_C(13)    /* the cutoff of the adaptive proportion test is below 2 or above the window */
+#define RBG_BAD_RATE UINT32_C(14)   /* a, num or den is outside its range */
+#define RBG_REPETITION UINT32_C(15) /* the repetition count test alarms at this sample */
+#define RBG_PROPORTION UINT32_C(16) /* the adaptive proportion test alarms at this sample */
 
 /* The state of a DRBG: the reseed counter, the kind, 0, and Key and V at the front of their fields with zeros behind them. A
  * program reads and writes none of it, but may copy and move it. */
@@ -108,6 +119,49 @@ uint32_t rbg_drbg_due(const struct rbg_drbg *state, uint64_t interval);
 /* Writes zeros to every field (9.4). It takes any bytes; what it leaves is no state, and every other call but an instantiation
  * answers RBG_BAD_STATE. Copies that a caller or the stack still holds are not cleared. */
 void rbg_drbg_clear(struct rbg_drbg *state);
+
+/* The health tests of one noise source: the cutoffs, what is kept of the samples before, and the alarm: 0 for none, 1 for repetition, 2
+ * for proportion. A program may read the alarm, and otherwise reads and writes none of it. */
+struct rbg_tests {
+    uint32_t rct;
+    uint32_t run;
+    uint32_t place;
+    uint32_t alarm;
+    uint16_t window;
+    uint16_t apt;
+    uint16_t equal;
+    uint8_t last;
+    uint8_t first;
+};
+
+typedef char rbg_tests_is_24_bytes[sizeof(struct rbg_tests) == 24 ? 1 : -1];
+typedef char rbg_tests_alarm_is_at_12[offsetof(struct rbg_tests, alarm) == 12 ? 1 : -1];
+typedef char rbg_tests_window_is_at_16[offsetof(struct rbg_tests, window) == 16 ? 1 : -1];
+typedef char rbg_tests_last_is_at_22[offsetof(struct rbg_tests, last) == 22 ? 1 : -1];
+
+/* Begins the tests: rct equal samples in a row alarm, at least 2 (4.4.1), and so do apt samples in a window that equal its first, at least
+ * 2 and at most the window, which is 512 for samples of several values and 1024 for binary ones (4.4.2).
+ *
+ * RBG_BAD_RCT, RBG_BAD_WINDOW, RBG_BAD_APT. */
+uint32_t rbg_tests_begin(struct rbg_tests *tests, uint32_t rct, uint16_t window, uint16_t apt);
+
+/* Takes one sample more. RBG_REPETITION or RBG_PROPORTION at the very sample that reaches a cutoff, repetition where both do; the alarm is
+ * kept, and the tests are to be begun anew.
+ *
+ * RBG_BAD_TESTS, RBG_ALARMED. */
+uint32_t rbg_tests_step(struct rbg_tests *tests, uint8_t sample);
+
+/* Takes samples in a row, up to the first that alarms, whose place among them, counted from 0, is written to at. Without an alarm at is left
+ * as it was.
+ *
+ * RBG_BAD_TESTS, RBG_ALARMED. */
+uint32_t rbg_tests_step_all(struct rbg_tests *tests, const uint8_t *samples, size_t samples_len, size_t *at);
+
+/* Writes the cutoff of the repetition count test, 1 + ceil(a / H), for a false alarm once in 2^a samples of H = num / den bits of
+ * min-entropy each (4.4.1): a from 1 to 64, num from 1 to 8000, den from 1 to 1000.
+ *
+ * RBG_BAD_RATE. */
+uint32_t rbg_rct_cutoff(uint32_t a, uint32_t num, uint32_t den, uint32_t *cutoff);
 
 #ifdef __cplusplus
 }

@@ -118,6 +118,54 @@ static void clears(void)
     expect(rbg_drbg_counter(&state, &counter) == RBG_BAD_STATE, "a cleared state is none");
 }
 
+/* The health tests: alarms at the sample that reaches a cutoff, one by one and in a row, and what is refused. */
+static void tests_alarm(void)
+{
+    static const uint8_t quiet[7] = {7, 7, 7, 8, 7, 8, 8}, run[6] = {1, 2, 9, 9, 9, 9};
+    struct rbg_tests tests, good, before;
+    uint32_t cutoff = 99;
+    size_t at = 99;
+    memset(&tests, 0xee, sizeof tests);
+    before = tests;
+    expect(rbg_tests_step(&tests, 0) == RBG_BAD_TESTS, "no tests");
+    expect(rbg_tests_begin(&tests, 1, 513, 1) == RBG_BAD_RCT, "a cutoff of 1");
+    expect(rbg_tests_begin(&tests, 2, 513, 1) == RBG_BAD_WINDOW, "a window of 513");
+    expect(rbg_tests_begin(&tests, 2, 512, 513) == RBG_BAD_APT, "a count above the window");
+    expect(memcmp(&tests, &before, sizeof tests) == 0, "a refused begin leaves the tests");
+    expect(rbg_tests_begin(&tests, 4, 512, 257) == RBG_DONE, "tests");
+    expect(rbg_tests_step_all(&tests, NULL, 0, &at) == RBG_DONE && at == 99, "no samples");
+    expect(rbg_tests_step_all(&tests, quiet, sizeof quiet, &at) == RBG_DONE && at == 99, "quiet samples");
+    good = tests;
+    expect(rbg_tests_step_all(&tests, run, sizeof run, &at) == RBG_REPETITION && at == 5 && tests.alarm == 1, "a run of four");
+    expect(rbg_tests_step(&tests, 0) == RBG_ALARMED && rbg_tests_step_all(&tests, quiet, 7, &at) == RBG_ALARMED, "it has alarmed");
+    tests = good;
+    for (size_t i = 0; i < 5; i++)
+        expect(rbg_tests_step(&tests, run[i]) == RBG_DONE, "no alarm yet");
+    expect(rbg_tests_step(&tests, 9) == RBG_REPETITION, "the fourth of a run");
+    tests = good;
+    tests.run = 3; /* as of 7, 7, 8, 7 and three more of 8; with a fourth 7 before them there would be a run of four */
+    expect(rbg_tests_step(&tests, 0) == RBG_BAD_TESTS, "a run that no samples leave");
+    tests.equal = 3;
+    expect(rbg_tests_step(&tests, 0) == RBG_DONE, "a run that other samples leave");
+    tests = good;
+    tests.run = 4;
+    expect(rbg_tests_step(&tests, 0) == RBG_BAD_TESTS, "a run at its cutoff");
+    tests = good;
+    tests.equal = 7; /* of seven samples the last is unlike the first */
+    expect(rbg_tests_step(&tests, 0) == RBG_BAD_TESTS, "a count that no samples leave");
+    tests = good;
+    tests.alarm = 3;
+    expect(rbg_tests_step(&tests, 0) == RBG_BAD_TESTS, "an unknown alarm");
+    expect(rbg_tests_begin(&tests, 31, 512, 2) == RBG_DONE && rbg_tests_step(&tests, 1) == RBG_DONE &&
+               rbg_tests_step(&tests, 2) == RBG_DONE && rbg_tests_step(&tests, 1) == RBG_PROPORTION && tests.alarm == 2,
+           "two of a window");
+    expect(rbg_rct_cutoff(0, 1, 1, &cutoff) == RBG_BAD_RATE && rbg_rct_cutoff(65, 1, 1, &cutoff) == RBG_BAD_RATE &&
+               rbg_rct_cutoff(1, 8001, 1, &cutoff) == RBG_BAD_RATE && rbg_rct_cutoff(1, 1, 1001, &cutoff) == RBG_BAD_RATE && cutoff == 99,
+           "numbers outside their ranges");
+    expect(rbg_rct_cutoff(30, 1, 1, &cutoff) == RBG_DONE && cutoff == 31, "a cutoff of 31");
+    expect(rbg_rct_cutoff(64, 1, 1000, &cutoff) == RBG_DONE && cutoff == 64001, "a cutoff of 64,001");
+}
+
 int main(void)
 {
     for (size_t i = 0; i < sizeof counting; i++)
@@ -125,6 +173,7 @@ int main(void)
     gives_known_bytes();
     refuses();
     clears();
+    tests_alarm();
     if (failures == 0)
         puts("calls: all as the header says");
     return failures != 0;

@@ -1,7 +1,8 @@
-// Values computed by another implementation, and the struct's size that `include/rbg.h` asserts.
+// Values computed by another implementation, and the structs' sizes that `include/rbg.h` asserts.
 use crate::{
-    RbgDrbg, rbg_drbg_clear, rbg_drbg_counter, rbg_drbg_due, rbg_drbg_generate,
-    rbg_drbg_generate_fresh, rbg_drbg_instantiate, rbg_drbg_reseed,
+    RbgDrbg, RbgTests, rbg_drbg_clear, rbg_drbg_counter, rbg_drbg_due, rbg_drbg_generate,
+    rbg_drbg_generate_fresh, rbg_drbg_instantiate, rbg_drbg_reseed, rbg_rct_cutoff,
+    rbg_tests_begin, rbg_tests_step, rbg_tests_step_all,
 };
 use std::test::Fail;
 
@@ -90,5 +91,29 @@ fn answers_as_another_implementation_through_the_exports(rt: HostRuntime) -> Res
         rbg_drbg_clear(&mut again);
         assert_eq!(rt; rbg_drbg_counter(&again, &mut counter), 2);
     }
+    Ok(())
+}
+
+#[test]
+fn alarms_where_the_crate_below_does(rt: HostRuntime) -> Result<(), Fail> {
+    assert_eq!(rt; size_of::<RbgTests>(), 24);
+    let mut tests = RbgTests {
+        rct: 0,
+        run: 0,
+        place: 0,
+        alarm: 0,
+        window: 0,
+        apt: 0,
+        equal: 0,
+        last: 0,
+        first: 0,
+    };
+    let (mut cutoff, mut at) = (0, 0);
+    assert_eq!(rt; rbg_rct_cutoff(20, 8, 1, &mut cutoff), 0);
+    assert_eq!(rt; cutoff, 4);
+    assert_eq!(rt; rbg_tests_begin(&mut tests, cutoff, 512, 257), 0);
+    assert_eq!(rt; rbg_tests_step(&mut tests, 7), 0);
+    assert_eq!(rt; rbg_tests_step_all(&mut tests, &[7, 7, 7, 7], &mut at), 15);
+    assert_eq!(rt; at, 2);
     Ok(())
 }
