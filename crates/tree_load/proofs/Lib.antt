@@ -1,1 +1,14 @@
 pub mod Making
+pub mod Asking
+pub mod Climbing
+pub mod Moving
+pub mod Stepping
+pub mod Below
+pub mod Lining
+pub mod Capping
+pub mod Drawing
+pub mod Generating
+pub mod Totals
+pub mod Tallying
+pub mod Ordering
+pub mod Loading

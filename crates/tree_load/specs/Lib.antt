@@ -1,2 +1,4 @@
 pub mod Load
 pub mod Made
+pub mod Tally
+pub mod Tallied

@@ -1,0 +1,50 @@
+// Laws on the counts of a tree after calls. Each is a function without a body of its own, whose contract is the law; no program calls them.
+ghost use Rattle.std.specs.Prelude.{◌≡◌, ◌<◌, ◌++◌, ℕ, List, length, slice_get, Some};
+ghost use Rattle.entropy_source.specs.Views.{SourceView};
+ghost use Rattle.rbg_nodes.specs.Views.{NodeView, counts_of};
+ghost use Rattle.rbg_nodes.specs.declared.node.NodeCounts.{NodeCounts};
+ghost use Rattle.tree_config.specs.Tree.{Tree};
+ghost use Rattle.tree_core.specs.declared.solo.SourceCounts.{SourceCounts};
+ghost use Rattle.tree_rules.specs.History.{Entry, Opening};
+ghost use Rattle.tree_rules.specs.Openings.{IsHistory, states_behind};
+ghost use Rattle.tree_load.specs.Load.{stated_calls};
+ghost use Rattle.tree_load.specs.Made.{AreMade};
+ghost use Rattle.tree_load.specs.Tally.{SameLengths, node_tally, source_tally};
+ghost use Rattle.tree_load.specs.Tallied.{AreDone, asked_by, asked_of, counts_at, source_counts_at, view_counts};
+
+use sample_source::Samples;
+
+/// Behind every history, calls of any callers decide the counts after them, where each is a Generate without prediction resistance or a
+/// Status and is Done: the counts of every node and every source are those that the plan, the counts before the calls and the lengths
+/// that they ask of each node say.
+pub fn calls_decide_counts()
+    ensures nodes { (f : Opening) (o h es : List Entry) → IsHistory f o (h ++ es) → AreDone es → (n : ℕ) → n < length f.plan.nodes →
+        counts_at (states_behind f o (h ++ es)) n ≡ node_tally f.plan (counts_at (states_behind f o h)) (asked_by es) n }
+    ensures sources { (f : Opening) (o h es : List Entry) → IsHistory f o (h ++ es) → AreDone es → (j : ℕ) →
+        source_counts_at f.plan (states_behind f o (h ++ es)) j
+        ≡ source_tally f.plan (counts_at (states_behind f o h)) (asked_by es) j (source_counts_at f.plan (states_behind f o h) j) }
+{}
+
+/// The order of the calls does not matter: where the counts before are the same, and of each node the same lengths are asked in whatever
+/// order, so are the counts after. So it is of two runs over one plan, from two histories that left the same counts.
+pub fn counts_know_no_order()
+    ensures nodes { (p : Tree) (before from : ℕ → NodeCounts) (own others : ℕ → List ℕ) → ((n : ℕ) → before n ≡ from n) →
+        ((n : ℕ) → SameLengths (own n) (others n)) → (n : ℕ) → node_tally p before own n ≡ node_tally p from others n }
+    ensures sources { (p : Tree) (before from : ℕ → NodeCounts) (own others : ℕ → List ℕ) → ((n : ℕ) → before n ≡ from n) →
+        ((n : ℕ) → SameLengths (own n) (others n)) → (j : ℕ) (source : SourceCounts) →
+        source_tally p before own j source ≡ source_tally p from others j source }
+{}
+
+/// So it is of a load none of whose calls was refused: the counts of every node and every source after it are those that the plan, the
+/// counts before it and the stated calls say.
+pub fn loads_decide_counts<S: Samples>()
+    ensures nodes { (f : Opening) (o h : List Entry) (count seed calls done : ℕ)
+        (nodes : List NodeView) (sources : List (SourceView S)) →
+        AreMade S.told S.faults f o h (stated_calls count seed calls) done 0 nodes sources → (n : ℕ) (v : NodeView) → slice_get nodes n ≡ Some v →
+        counts_of v.state ≡ node_tally f.plan (counts_at (states_behind f o h)) (asked_of (stated_calls count seed calls)) n }
+    ensures sources { (f : Opening) (o h : List Entry) (count seed calls done : ℕ)
+        (nodes : List NodeView) (sources : List (SourceView S)) →
+        AreMade S.told S.faults f o h (stated_calls count seed calls) done 0 nodes sources → (j : ℕ) (v : SourceView S) → slice_get sources j ≡ Some v →
+        view_counts v ≡ source_tally f.plan (counts_at (states_behind f o h)) (asked_of (stated_calls count seed calls)) j
+        (source_counts_at f.plan (states_behind f o h) j) }
+{}
