@@ -1,10 +1,9 @@
 -- The run of a case: an instantiation, a reseed where there is one, and two generates, of which the second is looked at.
 -- SP 800-90A Rev. 1, 9 and 10; the order of a case's strings is this project's own.
-use Rattle.std.specs.Prelude.{ℕ, ◌&&◌, ◌||◌, Bool, true, false, List, [], length, is_some, if◌then◌else◌, Option, Some, None}
+use Rattle.std.specs.Prelude.{ℕ, ◌&&◌, ◌||◌, Bool, List, [], length, is_some, if◌then◌else◌, Option, Some, None}
 use Rattle.std.specs.Str.{bytes_eq}
 use Rattle.hmac_core.specs.declared.hash.Hash.{Hash}
 use Rattle.hmac_drbg.specs.HmacDrbg as hmac_drbg
-use Rattle.df_core.specs.declared.key_len.KeyLen.{KeyLen}
 use Rattle.df_core.specs.KeyLen.{key_bytes}
 use Rattle.ctr_drbg.specs.declared.seeds.Mode.{Mode}
 use Rattle.ctr_drbg.specs.CtrDrbg as ctr_drbg

@@ -1,13 +1,24 @@
 //! The cases of response texts, run by the mechanisms.
 //!
 //! - `judgement`: what a run says of a case;
-//! - `run`: the run of a case, and its verdict.
+//! - `run`: the run of a case, and its verdict;
+//! - `totals`: how replaying a text ends;
+//! - `lines`: the lines that are printed of a text;
+//! - `replaying`: a text is replayed.
 #![tactic(auto)]
 
 mod judgement;
+mod lines;
+mod replaying;
 mod run;
-#[cfg(test)]
-mod tests;
+mod totals;
 
 pub use judgement::Verdict;
+pub use replaying::replay;
 pub use run::verdict;
+pub use totals::{ReplayRefusal, Totals};
+
+#[cfg(test)]
+mod replay_tests;
+#[cfg(test)]
+mod tests;
