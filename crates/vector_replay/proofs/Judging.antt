@@ -4,22 +4,18 @@ use Rattle.std.specs.Prelude.{IfSome}
 use Rattle.std.specs.List.{concat}
 use Rattle.std.specs.Str.{bytes_eq}
 use Rattle.std.specs.Io.KnownBytes.{Appends}
-use Rattle.std.proofs.Common.{append-nil, Ok, Err}
+use Rattle.std.proofs.Common.{Ok, Err}
 use Rattle.rbg_bytes.specs.Streams.{AppendsFront}
 use Rattle.vector_text.specs.declared.case.Case.{Case}
 use Rattle.vector_text.specs.declared.reader.TextRefusal as texts
 use Rattle.vector_text.specs.Text.{Entry, ACase}
+use Rattle.vector_text.proofs.Writing.{appends_none}
 use Rattle.vector_replay.specs.declared.judgement.Verdict.TheVariants.{Same, Differs, BadLengths}
 use Rattle.vector_replay.specs.declared.totals.Totals.{Totals}
 use Rattle.vector_replay.specs.declared.totals.ReplayRefusal.TheVariants.{Text, WriteFault}
 use Rattle.vector_replay.specs.Run.{judged, output_of}
 use Rattle.vector_replay.specs.Report.{Report, Faulty, difference, one_differed, one_passed, report_of, with_lines, with_output}
 use Rattle.vector_replay.specs.Replaying.{Takes}
-
--- nothing is written
-pub appends_none : (a : Option (List ℕ)) → Appends a a []
-appends_none None = tt
-appends_none (Some x) = sym (append-nil x)
 
 -- the first of two
 passes_if : (b : Bool) (x y : Report) → Same ≡ cond b Same Differs → cond b x y ≡ x

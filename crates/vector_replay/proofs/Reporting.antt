@@ -20,7 +20,7 @@ use Rattle.vector_replay.specs.declared.totals.ReplayRefusal.{ReplayRefusal}
 use Rattle.vector_replay.specs.declared.totals.ReplayRefusal.TheVariants.{Text, WriteFault, OutOfMemory}
 use Rattle.vector_replay.specs.Report.{Counted, Faulty, Report, none_yet, one_skipped, report_of, totals_line, with_lines}
 use Rattle.vector_replay.specs.Replaying.{Ends, Finishes, HasReadCause, HasWriteCause, Stands, Takes, replayed}
-use Rattle.vector_replay.proofs.Judging.{appends_none}
+use Rattle.vector_text.proofs.Writing.{appends_none}
 
 -- ---- one step of a report
 

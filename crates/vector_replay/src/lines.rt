@@ -1,13 +1,12 @@
 // The lines that are printed of a text, each in one write.
-ghost use Rattle.std.specs.Prelude.{◌≡◌, ◌≤◌, ◌<◌, ◌+◌, ◌*◌, ◌++◌, length, take, drop};
+ghost use Rattle.std.specs.Prelude.{◌≡◌, ◌≤◌, length, take};
 ghost use Rattle.std.specs.List.{concat};
-ghost use Rattle.hex.specs.Hex.{encode_lower};
 ghost use Rattle.rbg_bytes.specs.Streams.{HasCause, TakesAll};
 ghost use Rattle.vector_replay.specs.Report.{bytes_line, difference, differs_line, totals_line};
 
 use crate::totals::Totals;
 use rbg_bytes::{ByteSink, Failed, Fixed, Line, put_at, put_front};
-use vector_text::Case;
+use vector_text::{Case, put_digits};
 
 /// The bytes of the longest line: a word of five bytes, the digits of 4,096 bytes and a line feed.
 pub const ROOM: usize = 8_198;
@@ -40,25 +39,6 @@ pub fn write_totals<O: ByteSink>(totals: &Totals, output: &mut O) -> Result<(), 
     line.number(totals.skipped);
     line.text("\n");
     output.write_all(line.as_bytes())
-}
-
-// Fills a row with the digits of bytes.
-fn fill_digits(bytes: &[u8], out: &mut [u8])
-    requires { length out.old ≡ 2 * length bytes.now }
-    ensures { out.new ≡ encode_lower bytes.now }
-{
-    match hex::encode_to_slice(bytes, out) {
-        Ok(()) => {}
-        Err(_) => unreachable!(),
-    }
-}
-
-// Puts the digits of bytes at a place of a room in which they fit.
-fn put_digits(out: &mut [u8], at: usize, bytes: &[u8])
-    requires { at + 2 * length bytes.now ≤ length out.old }
-    ensures { take (at + 2 * length bytes.now) out.new ≡ take at out.old ++ encode_lower bytes.now }
-{
-    fill_digits(bytes, &mut out[at..at + 2 * bytes.len()]);
 }
 
 // Puts a line of a word and digits together, and says how many bytes it has.

@@ -1,10 +1,10 @@
 -- The entries of a text end once.
-use Rattle.std.proofs.Common.{◌≡◌, ℕ, ◌+◌, List, [], ◌∷◌, Bool, true, false, cond, refl, sym, subst, Option, Some, None}
+use Rattle.std.proofs.Common.{ℕ, ◌+◌, List, [], ◌∷◌, Bool, true, false, cond, refl, sym, subst, Option, Some, None}
 use Rattle.std.specs.Str.Lines.{lines}
 use Rattle.vector_text.specs.declared.case.Family.{Family}
 use Rattle.vector_text.specs.Shapes.{shape_of, ends_group}
 use Rattle.vector_text.specs.Groups.{Group, is_whole, case_of}
-use Rattle.vector_text.specs.Text.{Entry, ACase, ASkip, TheEnd, AFault, EndsOnce, Place, Step, Goes, Skips, Fails, at_start, behind_step, closed, closing, does, entries, entries_from, from_line}
+use Rattle.vector_text.specs.Text.{Entry, ACase, TheEnd, AFault, EndsOnce, Place, Step, Goes, Skips, Fails, at_start, behind_step, closed, closing, does, entries, entries_from}
 use Rattle.vector_text.proofs.Steps.{entries_end, entries_line, later_of}
 
 ends_cond : (b : Bool) (x y : List Entry) → EndsOnce x → EndsOnce y → EndsOnce (cond b x y)

@@ -5,3 +5,7 @@ pub mod Windows
 pub mod Steps
 pub mod Readings
 pub mod Ending
+pub mod Above
+pub mod Printed
+pub mod Rereading
+pub mod Writing

@@ -1,13 +1,12 @@
 -- Numbers in decimal digits.
-use Rattle.std.proofs.Common.{zero, suc, inl, inr, ◌≡◌, ◌<◌, ◌≤◌, ◌^◌, ℕ, ◌+◌, List, [], ◌∷◌, ◌&&◌, length, drop, get_or, Bool, true, false, cond, refl, sym, ap, ◌∙◌, subst, arith, lt-ltb, le-ltb, add-one, drop-cons, drop_of_length-le}
-use Rattle.std.specs.Prelude.{Option, Some, None, Result, Ok, Err, nat_lt, slice_index}
+use Rattle.std.proofs.Common.{zero, suc, inl, inr, ◌≡◌, ◌<◌, ◌≤◌, ◌^◌, ℕ, ◌+◌, List, [], ◌∷◌, ◌&&◌, length, drop, get_or, Bool, true, false, cond, refl, sym, ap, ◌∙◌, arith, le-ltb, add-one, drop-cons, drop_of_length-le}
+use Rattle.std.specs.Prelude.{Some, None, Result, Err}
 use Rattle.std.specs.Char.{is_ascii_digit}
 use Rattle.std.specs.Str.{all_ascii_digits, IsUtf8, IsAscii}
 use Rattle.std.specs.Str.Parse.{ParsesUnsigned, digits_value}
-use Rattle.std.specs.Result.{OkIff}
 use Rattle.std.proofs.lemmas.Result.{OkIff-at_err}
 use Rattle.std.proofs.lemmas.Str.{IsUtf8-from_ascii}
-use Rattle.std.proofs.lemmas.Str.Parse.{numerals_by_value, tells_all_ascii_digits, parse_digits, IsNumeralModel, IsDigitsTest}
+use Rattle.std.proofs.lemmas.Str.Parse.{numerals_by_value, tells_all_ascii_digits, parse_digits, IsNumeralModel}
 use Rattle.std.proofs.lemmas.Bool.{cases_lt}
 use Rattle.vector_text.specs.Names.{count_of, count_below}
 
@@ -34,10 +33,10 @@ digits_end w i h same = sym (ap all_ascii_digits (drop_of_length-le w h)) ∙ sa
 
 -- ---- digits as text, and as a number
 
-abbrev AreDigits : List ℕ → Type 0
+abbrev pub AreDigits : List ℕ → Type 0
 AreDigits ds = all_ascii_digits ds ≡ true
 
-abbrev own : IsNumeralModel AreDigits (digits_value 10)
+abbrev pub own : IsNumeralModel AreDigits (digits_value 10)
 own = numerals_by_value AreDigits tells_all_ascii_digits
 
 -- digits are text

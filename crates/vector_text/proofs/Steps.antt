@@ -1,6 +1,5 @@
 -- What a line does to what stands in a text.
 use Rattle.std.proofs.Common.{◌≡◌, ℕ, ◌+◌, List, [], ◌∷◌, Bool, true, false, cond, refl, sym, ap, ◌∙◌, subst, Option, Some, None}
-use Rattle.std.specs.Str.Lines.{lines}
 use Rattle.vector_text.specs.declared.case.Family.{Family}
 use Rattle.vector_text.specs.declared.case.Case.{Case}
 use Rattle.vector_text.specs.declared.shape.Shape.{Shape}
@@ -8,7 +7,7 @@ use Rattle.vector_text.specs.declared.spot.Took as tooks
 use Rattle.vector_text.specs.declared.spot.Answer as answers
 use Rattle.vector_text.specs.Shapes.{shape_of, ends_group}
 use Rattle.vector_text.specs.Groups.{Group, is_whole, case_of}
-use Rattle.vector_text.specs.Text.{Entry, ACase, ASkip, TheEnd, AFault, Place, Step, Goes, Skips, Fails, does, closed, closing, behind_step, from_line, entries_from}
+use Rattle.vector_text.specs.Text.{Entry, ACase, TheEnd, AFault, Place, Step, does, closed, closing, behind_step, from_line, entries_from}
 use Rattle.vector_text.specs.Spots.{took_of, answer_of, closes, Says, lines_behind}
 
 -- ---- what stands in lines, from the first of them on

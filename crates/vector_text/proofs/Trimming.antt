@@ -1,6 +1,6 @@
 -- Blanks at the ends of a text.
-use Rattle.std.proofs.Common.{◌≡◌, ◌<◌, ◌≤◌, ℕ, ◌+◌, ◌-◌, List, [], ◌∷◌, ◌++◌, length, drop, take, get_or, Bool, true, false, cond, refl, sym, ap, ◌∙◌, subst, arith, drop_of_length-le, length-drop}
-use Rattle.std.proofs.lemmas.List.{take_more, take_all}
+use Rattle.std.proofs.Common.{◌≡◌, ◌<◌, ◌≤◌, ℕ, ◌+◌, ◌-◌, List, [], ◌∷◌, ◌++◌, length, drop, take, get_or, Bool, true, false, cond, refl, sym, ap, ◌∙◌, arith, drop_of_length-le, length-drop}
+use Rattle.std.proofs.lemmas.List.{take_more}
 use Rattle.std.specs.Prelude.{position, Option, Some, None}
 use Rattle.vector_text.specs.declared.trim.Blank.TheVariants.{Space, SpaceOrTab}
 use Rattle.vector_text.specs.Shapes.{trimmed, value_in, value_of}

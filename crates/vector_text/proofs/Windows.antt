@@ -1,11 +1,11 @@
 -- Reads, and what may follow.
-use Rattle.std.proofs.Common.{zero, suc, ◌≡◌, ◌<◌, ◌≤◌, ℕ, ◌+◌, ◌-◌, List, [], ◌∷◌, ◌++◌, length, take, drop, cond, Bool, true, false, refl, sym, ap, ◌∙◌, subst, arith, append-nil, append_assoc, length-append, length-take, Option, Some, None}
+use Rattle.std.proofs.Common.{zero, suc, ◌≡◌, ◌<◌, ◌≤◌, ℕ, ◌+◌, ◌-◌, List, [], ◌∷◌, ◌++◌, length, take, drop, cond, Bool, false, refl, sym, ap, ◌∙◌, subst, arith, append-nil, length-append, length-take, Option, Some, None}
 use Rattle.std.specs.List.{All}
 use Rattle.std.specs.Str.Lines.{lines}
 use Rattle.std.specs.Io.KnownBytes.{Consumes, Keeps, IsAtEnd}
 use Rattle.std.proofs.Math.Seq.{take-append-add, take-add, take-length, take-nil, drop-length}
 use Rattle.std.proofs.lemmas.List.{drop-drop, drop-take}
-use Rattle.vector_text.specs.Feeding.{Window, Follows, is_line_feed, Grows, HasLine, Finds, last_found, BeginsLong}
+use Rattle.vector_text.specs.Feeding.{Window, Follows, is_line_feed, Grows, HasLine, Finds, last_found}
 use Rattle.vector_text.specs.declared.feed.Found.{Found}
 use Rattle.vector_text.specs.declared.feed.Found.TheVariants.{End, Line, Long}
 use Rattle.vector_text.proofs.Lining.{lines_last, lines_long, nonempty}

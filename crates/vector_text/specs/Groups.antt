@@ -1,6 +1,6 @@
 -- A group: the values under its COUNT line by name, how many there may be, and the case that they make.
 -- This project's own, after the layout of NIST's DRBGVS response files.
-use Rattle.std.specs.Prelude.{ℕ, ◌&&◌, ◌||◌, Bool, true, false, not, List, [], ◌∷◌, ◌++◌, length, nat_eq, nat_lt}
+use Rattle.std.specs.Prelude.{ℕ, ◌&&◌, ◌||◌, Bool, not, List, [], ◌∷◌, ◌++◌, length, nat_eq, nat_lt}
 use Rattle.vector_text.specs.declared.case.Case.{Case}
 use Rattle.vector_text.specs.declared.case.Mech.{Mech}
 use Rattle.vector_text.specs.declared.shape.Field.{Field}

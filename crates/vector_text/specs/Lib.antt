@@ -7,3 +7,4 @@ pub mod Text
 pub mod Feeding
 pub mod Spots
 pub mod Reading
+pub mod Printing

@@ -12,7 +12,7 @@ use Rattle.vector_text.specs.declared.reading.Reading.{Reading}
 use Rattle.vector_text.specs.declared.reader.Item as items
 use Rattle.vector_text.specs.declared.reader.TextRefusal as refusals
 use Rattle.vector_text.specs.Groups.{Group}
-use Rattle.vector_text.specs.Feeding.{Window, Follows, Finds, most_bytes}
+use Rattle.vector_text.specs.Feeding.{Window, Follows, most_bytes}
 use Rattle.vector_text.specs.Text.{Entry, Place, at_start, entries_from}
 use Rattle.vector_text.specs.Spots.{place_of, Says}
 

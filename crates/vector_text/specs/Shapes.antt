@@ -1,6 +1,6 @@
 -- What a line is by itself.
 -- This project's own, after the layout of NIST's DRBGVS response files.
-use Rattle.std.specs.Prelude.{ℕ, ◌-◌, ◌==◌, ◌&&◌, ◌||◌, Bool, true, false, List, [], ◌∷◌, length, take, drop, codes, slice_index, nat_lt, if◌then◌else◌, Option, Some, None}
+use Rattle.std.specs.Prelude.{ℕ, ◌-◌, ◌==◌, ◌&&◌, ◌||◌, Bool, true, false, List, [], length, take, drop, codes, slice_index, nat_lt, if◌then◌else◌, Option, Some, None}
 use Rattle.std.specs.Str.{bytes_eq}
 use Rattle.vector_text.specs.declared.case.Family.{Family}
 use Rattle.vector_text.specs.declared.case.Mech.{Mech}

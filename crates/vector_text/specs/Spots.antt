@@ -1,6 +1,6 @@
 -- The place of a text that is kept, and what an answer says of the text from there on.
 -- This project's own.
-use Rattle.std.specs.Prelude.{◌≡◌, ◌<◌, ℕ, ◌+◌, ⊤, Bool, true, false, List, [], ◌∷◌, drop, if◌then◌else◌, Option, Some, None}
+use Rattle.std.specs.Prelude.{◌≡◌, ℕ, ◌+◌, ⊤, Bool, true, false, List, [], ◌∷◌, drop, if◌then◌else◌, Option, Some, None}
 use Rattle.vector_text.specs.declared.case.Case.{Case}
 use Rattle.vector_text.specs.declared.spot.Spot.{Spot}
 use Rattle.vector_text.specs.declared.spot.Took as tooks

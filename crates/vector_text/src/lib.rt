@@ -9,14 +9,17 @@
 //! - `spot`: what a line does at a place of a text;
 //! - `feed`: the lines of a source, one after another;
 //! - `reading`: a reader from the inside, `reader`: what it shows;
+//! - `digits`: hexadecimal digits in a buffer, `printing`: a case is printed;
 //! - `laws`: what holds of every text.
 #![tactic(auto)]
 
 mod case;
+mod digits;
 mod feed;
 mod group;
 mod laws;
 mod names;
+mod printing;
 mod reader;
 mod reading;
 mod shape;
@@ -24,7 +27,9 @@ mod spot;
 mod trim;
 
 pub use case::{Case, Family, Mech};
-pub use laws::{ends_once, one_reading};
+pub use digits::put_digits;
+pub use laws::{ends_once, one_reading, printed_reads};
+pub use printing::print_case;
 pub use reader::{Item, TextRefusal, VectorReader};
 
 #[cfg(test)]

@@ -1,8 +1,8 @@
 // Texts and what is read of them. The expected items follow from the layout by hand.
 ghost use Rattle.std.specs.Prelude.{◌≤◌};
 
-use crate::{Family, Item, Mech, TextRefusal, VectorReader};
-use rbg_bytes::{Fixed, MemSource};
+use crate::{Family, Item, Mech, TextRefusal, VectorReader, print_case};
+use rbg_bytes::{Fixed, MemSink, MemSource};
 use std::process::Abort;
 use std::test::Fail;
 
@@ -124,5 +124,57 @@ fn fields_go_where_their_names_and_places_say_and_a_failed_read_loses_none(
     assert!(&rt; holds(&case.pr1, &[8]) && holds(&case.pr2, &[9]));
     assert!(&rt; holds(&case.returned, &[11, 11]));
     assert!(&rt; reader.next(&mut source) == Ok(Item::End));
+    Ok(())
+}
+
+// Prints the first case of a text, where the write with this number fails.
+fn printed(
+    rt: &(impl Abort + AllocGlobal),
+    family: &str,
+    text: &str,
+    write: u64,
+) -> Result<String, Fail> {
+    let alloc = rt.alloc();
+    let family = if family == "Hmac" {
+        Family::Hmac
+    } else {
+        Family::Ctr
+    };
+    let mut source = MemSource::new(text.as_bytes().to_vec(alloc)?, 65_536, Vec::new(alloc));
+    let mut reader = VectorReader::open(alloc, family)
+        .ok()
+        .expect(rt, "a reader");
+    assert!(rt; reader.next(&mut source) == Ok(Item::Case));
+    let mut sink = MemSink::new(vec![in alloc; 0u8; 4_096]?, vec![in alloc; write]?);
+    let done = print_case(reader.case(), &mut sink).is_ok();
+    assert_eq!(rt; done, write > 15);
+    let text = std::str::from_utf8(sink.written()).ok().expect(rt, "text");
+    Ok(String::from_str(alloc, text)?)
+}
+
+// Texts of one case, each behind its family and before what is printed of it.
+const PRINTED: &str =
+    "Hmac># a comment\n[SHA-256]\n[PredictionResistance = False]\n[ReturnedBitsLen = 256]\nCOUNT = 00\nReturnedBits = 08767656D3E9669EB668D1E1F5B80D27BB1AEE12FF719EEB83E3DCE006718C16\nAdditionalInput =\nAdditionalInput=\nNonce = 202122232425262728292a2b2c2d2e2f\nEntropyInput = 000102030405060708090a0b0c0d0e0f101112131415161718191a1b1c1d1e1f>[SHA-256]\n[PredictionResistance = False]\nCOUNT = 0\nEntropyInput = 000102030405060708090a0b0c0d0e0f101112131415161718191a1b1c1d1e1f\nNonce = 202122232425262728292a2b2c2d2e2f\nPersonalizationString =\nAdditionalInput =\nAdditionalInput =\nReturnedBits = 08767656d3e9669eb668d1e1f5b80d27bb1aee12ff719eeb83e3dce006718c16\n|Hmac>[SHA-224]\n[PredictionResistance = True]\nCOUNT = 18446744073709551615\nEntropyInput = 01\nNonce = 02\nPersonalizationString = 03\nEntropyInputReseed = 04\nAdditionalInputReseed = 05\nAdditionalInput = 06\nEntropyInputPR = 08\nAdditionalInput = 07\nEntropyInputPR = 09\nReturnedBits = 0b0b\n>[SHA-224]\n[PredictionResistance = True]\nCOUNT = 18446744073709551615\nEntropyInput = 01\nNonce = 02\nPersonalizationString = 03\nEntropyInputReseed = 04\nAdditionalInputReseed = 05\nAdditionalInput = 06\nEntropyInputPR = 08\nAdditionalInput = 07\nEntropyInputPR = 09\nReturnedBits = 0b0b\n|Hmac>[SHA-384]\n[PredictionResistance = True]\nCOUNT = 18446744073709551615\nEntropyInput = 01\nNonce = 02\nPersonalizationString = 03\nEntropyInputReseed = 04\nAdditionalInputReseed = 05\nAdditionalInput = 06\nEntropyInputPR = 08\nAdditionalInput = 07\nEntropyInputPR = 09\nReturnedBits = 0b0b\n>[SHA-384]\n[PredictionResistance = True]\nCOUNT = 18446744073709551615\nEntropyInput = 01\nNonce = 02\nPersonalizationString = 03\nEntropyInputReseed = 04\nAdditionalInputReseed = 05\nAdditionalInput = 06\nEntropyInputPR = 08\nAdditionalInput = 07\nEntropyInputPR = 09\nReturnedBits = 0b0b\n|Hmac>[SHA-512]\n[PredictionResistance = True]\nCOUNT = 18446744073709551615\nEntropyInput = 01\nNonce = 02\nPersonalizationString = 03\nEntropyInputReseed = 04\nAdditionalInputReseed = 05\nAdditionalInput = 06\nEntropyInputPR = 08\nAdditionalInput = 07\nEntropyInputPR = 09\nReturnedBits = 0b0b\n>[SHA-512]\n[PredictionResistance = True]\nCOUNT = 18446744073709551615\nEntropyInput = 01\nNonce = 02\nPersonalizationString = 03\nEntropyInputReseed = 04\nAdditionalInputReseed = 05\nAdditionalInput = 06\nEntropyInputPR = 08\nAdditionalInput = 07\nEntropyInputPR = 09\nReturnedBits = 0b0b\n|Hmac>[SHA-512/224]\n[PredictionResistance = True]\nCOUNT = 18446744073709551615\nEntropyInput = 01\nNonce = 02\nPersonalizationString = 03\nEntropyInputReseed = 04\nAdditionalInputReseed = 05\nAdditionalInput = 06\nEntropyInputPR = 08\nAdditionalInput = 07\nEntropyInputPR = 09\nReturnedBits = 0b0b\n>[SHA-512/224]\n[PredictionResistance = True]\nCOUNT = 18446744073709551615\nEntropyInput = 01\nNonce = 02\nPersonalizationString = 03\nEntropyInputReseed = 04\nAdditionalInputReseed = 05\nAdditionalInput = 06\nEntropyInputPR = 08\nAdditionalInput = 07\nEntropyInputPR = 09\nReturnedBits = 0b0b\n|Hmac>[SHA-512/256]\n[PredictionResistance = True]\nCOUNT = 18446744073709551615\nEntropyInput = 01\nNonce = 02\nPersonalizationString = 03\nEntropyInputReseed = 04\nAdditionalInputReseed = 05\nAdditionalInput = 06\nEntropyInputPR = 08\nAdditionalInput = 07\nEntropyInputPR = 09\nReturnedBits = 0b0b\n>[SHA-512/256]\n[PredictionResistance = True]\nCOUNT = 18446744073709551615\nEntropyInput = 01\nNonce = 02\nPersonalizationString = 03\nEntropyInputReseed = 04\nAdditionalInputReseed = 05\nAdditionalInput = 06\nEntropyInputPR = 08\nAdditionalInput = 07\nEntropyInputPR = 09\nReturnedBits = 0b0b\n|Ctr>[AES-128 use df]\n[PredictionResistance = True]\nCOUNT = 18446744073709551615\nEntropyInput = 01\nNonce = 02\nPersonalizationString = 03\nEntropyInputReseed = 04\nAdditionalInputReseed = 05\nAdditionalInput = 06\nEntropyInputPR = 08\nAdditionalInput = 07\nEntropyInputPR = 09\nReturnedBits = 0b0b\n>[AES-128 use df]\n[PredictionResistance = True]\nCOUNT = 18446744073709551615\nEntropyInput = 01\nNonce = 02\nPersonalizationString = 03\nEntropyInputReseed = 04\nAdditionalInputReseed = 05\nAdditionalInput = 06\nEntropyInputPR = 08\nAdditionalInput = 07\nEntropyInputPR = 09\nReturnedBits = 0b0b\n|Ctr>[AES-192 use df]\n[PredictionResistance = True]\nCOUNT = 18446744073709551615\nEntropyInput = 01\nNonce = 02\nPersonalizationString = 03\nEntropyInputReseed = 04\nAdditionalInputReseed = 05\nAdditionalInput = 06\nEntropyInputPR = 08\nAdditionalInput = 07\nEntropyInputPR = 09\nReturnedBits = 0b0b\n>[AES-192 use df]\n[PredictionResistance = True]\nCOUNT = 18446744073709551615\nEntropyInput = 01\nNonce = 02\nPersonalizationString = 03\nEntropyInputReseed = 04\nAdditionalInputReseed = 05\nAdditionalInput = 06\nEntropyInputPR = 08\nAdditionalInput = 07\nEntropyInputPR = 09\nReturnedBits = 0b0b\n|Ctr>[AES-256 use df]\n[PredictionResistance = True]\nCOUNT = 18446744073709551615\nEntropyInput = 01\nNonce = 02\nPersonalizationString = 03\nEntropyInputReseed = 04\nAdditionalInputReseed = 05\nAdditionalInput = 06\nEntropyInputPR = 08\nAdditionalInput = 07\nEntropyInputPR = 09\nReturnedBits = 0b0b\n>[AES-256 use df]\n[PredictionResistance = True]\nCOUNT = 18446744073709551615\nEntropyInput = 01\nNonce = 02\nPersonalizationString = 03\nEntropyInputReseed = 04\nAdditionalInputReseed = 05\nAdditionalInput = 06\nEntropyInputPR = 08\nAdditionalInput = 07\nEntropyInputPR = 09\nReturnedBits = 0b0b\n|Ctr>[AES-128 no df]\n[PredictionResistance = True]\nCOUNT = 18446744073709551615\nEntropyInput = 01\nNonce = 02\nPersonalizationString = 03\nEntropyInputReseed = 04\nAdditionalInputReseed = 05\nAdditionalInput = 06\nEntropyInputPR = 08\nAdditionalInput = 07\nEntropyInputPR = 09\nReturnedBits = 0b0b\n>[AES-128 no df]\n[PredictionResistance = True]\nCOUNT = 18446744073709551615\nEntropyInput = 01\nNonce = 02\nPersonalizationString = 03\nEntropyInputReseed = 04\nAdditionalInputReseed = 05\nAdditionalInput = 06\nEntropyInputPR = 08\nAdditionalInput = 07\nEntropyInputPR = 09\nReturnedBits = 0b0b\n|Ctr>[AES-192 no df]\n[PredictionResistance = True]\nCOUNT = 18446744073709551615\nEntropyInput = 01\nNonce = 02\nPersonalizationString = 03\nEntropyInputReseed = 04\nAdditionalInputReseed = 05\nAdditionalInput = 06\nEntropyInputPR = 08\nAdditionalInput = 07\nEntropyInputPR = 09\nReturnedBits = 0b0b\n>[AES-192 no df]\n[PredictionResistance = True]\nCOUNT = 18446744073709551615\nEntropyInput = 01\nNonce = 02\nPersonalizationString = 03\nEntropyInputReseed = 04\nAdditionalInputReseed = 05\nAdditionalInput = 06\nEntropyInputPR = 08\nAdditionalInput = 07\nEntropyInputPR = 09\nReturnedBits = 0b0b\n|Ctr>[AES-256 no df]\n[PredictionResistance = True]\nCOUNT = 18446744073709551615\nEntropyInput = 01\nNonce = 02\nPersonalizationString = 03\nEntropyInputReseed = 04\nAdditionalInputReseed = 05\nAdditionalInput = 06\nEntropyInputPR = 08\nAdditionalInput = 07\nEntropyInputPR = 09\nReturnedBits = 0b0b\n>[AES-256 no df]\n[PredictionResistance = True]\nCOUNT = 18446744073709551615\nEntropyInput = 01\nNonce = 02\nPersonalizationString = 03\nEntropyInputReseed = 04\nAdditionalInputReseed = 05\nAdditionalInput = 06\nEntropyInputPR = 08\nAdditionalInput = 07\nEntropyInputPR = 09\nReturnedBits = 0b0b\n|Hmac>[SHA-256]\nCOUNT = 5\nEntropyInput =\nReturnedBits =\nEntropyInputReseed = 04\nEntropyInputPR = 08\n>[SHA-256]\n[PredictionResistance = False]\nCOUNT = 5\nEntropyInput =\nNonce =\nPersonalizationString =\nEntropyInputReseed = 04\nAdditionalInputReseed =\nAdditionalInput =\nAdditionalInput =\nReturnedBits =\n|Hmac>[SHA-256]\nCOUNT = 5\nEntropyInput =\nReturnedBits =\nAdditionalInputReseed = 04\n>[SHA-256]\n[PredictionResistance = False]\nCOUNT = 5\nEntropyInput =\nNonce =\nPersonalizationString =\nAdditionalInput =\nAdditionalInput =\nReturnedBits =\n";
+
+#[test]
+fn a_case_is_printed_line_by_line_and_reads_again(rt: HostRuntime) -> Result<(), Fail> {
+    for row in PRINTED.split('|') {
+        let (family, rest) = row.split_once('>').expect(&rt, "a family");
+        let (text, wanted) = rest.split_once('>').expect(&rt, "what is printed");
+        let first = printed(&rt, family, text, 16)?;
+        assert_eq!(&rt; first.as_str(), wanted);
+        let again = printed(&rt, family, first.as_str(), 16)?;
+        assert_eq!(&rt; again.as_str(), wanted);
+    }
+    let found = printed(
+        &rt,
+        "Hmac",
+        "[SHA-256]\nCOUNT = 5\nEntropyInput = 00\nReturnedBits =",
+        4,
+    )?;
+    assert_eq!(&rt;
+        found.as_str(),
+        "[SHA-256]\n[PredictionResistance = False]\nCOUNT = 5\nEntropyInput = 00\n"
+    );
     Ok(())
 }

@@ -3,7 +3,7 @@ use Rattle.std.specs.Io.KnownBytes.{Appends}
 use Rattle.rbg_bytes.specs.Streams.{AppendsFront, TakesAll}
 use Rattle.rbg_bytes.proofs.Fronts.{front_after, front_within}
 use Rattle.vector_replay.specs.Report.{bytes_line, differs_line}
-use Rattle.vector_replay.proofs.Writing.{takes_after}
+use Rattle.vector_text.proofs.Writing.{takes_after}
 use Rattle.vector_replay.proofs.lines.write_difference.Goals as goal
 
 pub returns-in-Err-clause-bytes : goal.returns-in-Err-clause-bytes

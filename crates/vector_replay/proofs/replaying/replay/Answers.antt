@@ -5,7 +5,7 @@ use Rattle.vector_text.specs.declared.reader.Item.{Item}
 use Rattle.vector_text.specs.Feeding.{most_bytes}
 use Rattle.vector_text.specs.Reading.{Gives, Nears}
 use Rattle.vector_replay.specs.Replaying.{Takes}
-use Rattle.vector_replay.proofs.Judging.{appends_none}
+use Rattle.vector_text.proofs.Writing.{appends_none}
 use Rattle.vector_replay.proofs.Reporting.{ends_finished, ends_refused, ends_untaken, finished_reads, some_follows, stands_first, stands_skipped, stands_taken, untaken_reads}
 use Rattle.vector_replay.proofs.replaying.replay.Goals as goal
 

@@ -1,6 +1,4 @@
-use Rattle.std.proofs.Common.{◌≡◌, ◌∙◌, ℕ, List, ap, sym, subst, arith, length, false, true}
-use Rattle.std.specs.Prelude.{None, IfNone}
-use Rattle.std.specs.declared.option.Option.{Option}
+use Rattle.std.proofs.Common.{◌≡◌, ◌∙◌, ℕ, List, ap, sym, subst, arith, length, false}
 use Rattle.std.specs.List.{All}
 use Rattle.vector_text.specs.Feeding.{Window, is_line_feed, last_found}
 use Rattle.vector_text.proofs.Windows.{found_last, found_long}

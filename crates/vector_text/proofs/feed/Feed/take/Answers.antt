@@ -1,4 +1,4 @@
-use Rattle.std.proofs.Common.{◌≡◌, ◌≤◌, List, ℕ, ◌∙◌, drop, length, subst, sym, ap}
+use Rattle.std.proofs.Common.{◌≤◌, List, ℕ, ◌∙◌, drop, length, subst, sym, ap}
 use Rattle.vector_text.specs.Feeding.{Window}
 use Rattle.vector_text.proofs.Windows.{taken_front}
 use Rattle.vector_text.proofs.feed.Feed.take.Goals as goal

@@ -1,4 +1,4 @@
-use Rattle.std.proofs.Common.{◌≡◌, ◌∙◌, ◌++◌, ap, sym, subst, arith, length, take, List, ℕ, length-take}
+use Rattle.std.proofs.Common.{◌++◌, subst, arith, length-take}
 use Rattle.std.specs.Str.Lines.{lines}
 use Rattle.vector_text.specs.declared.feed.Found.{Found}
 use Rattle.vector_text.specs.Feeding.{Finds}

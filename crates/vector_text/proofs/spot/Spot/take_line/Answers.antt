@@ -1,10 +1,9 @@
-use Rattle.std.proofs.Common.{◌≡◌, ◌∙◌, ◌+◌, ◌∷◌, true, false, Bool, ap, sym, refl, subst}
+use Rattle.std.proofs.Common.{◌∙◌, ◌∷◌, Bool, ap, sym, subst}
 use Rattle.vector_text.specs.declared.spot.Answer.{Answer}
-use Rattle.vector_text.specs.declared.shape.Shape.{Shape}
 use Rattle.vector_text.specs.Shapes.{ends_group}
 use Rattle.vector_text.specs.Gathered.{group_of}
 use Rattle.vector_text.specs.Text.{entries_from, does}
-use Rattle.vector_text.specs.Spots.{Says, lines_behind, opened, place_of, took_of}
+use Rattle.vector_text.specs.Spots.{Says, lines_behind, opened, place_of}
 use Rattle.vector_text.proofs.Steps.{says_inside, says_outside, says_closed}
 use Rattle.vector_text.proofs.spot.Spot.take_line.Goals as goal
 use Rattle.vector_text.proofs.spot.Spot.take_line.Goals.{else-self-via-then-self+else-ends_group, else-self-via-else-self}
