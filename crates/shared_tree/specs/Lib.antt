@@ -10,6 +10,7 @@ pub mod BothLaws
 pub mod Sums
 pub mod Rows
 pub mod RowLaws
+pub mod LentBox
 pub mod LentPlace
 pub mod Carries
 pub mod Sorted

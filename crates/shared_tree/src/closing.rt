@@ -41,8 +41,8 @@ fn sort<S: Samples>(
 {
     for value in values {
         match value {
-            SlotValue::Node(node) => nodes.push_reserved(node),
-            SlotValue::Source(source) => sources.push_reserved(source),
+            SlotValue::Node(node) => nodes.push_reserved(node.into_inner()),
+            SlotValue::Source(source) => sources.push_reserved(source.into_inner()),
         }
     }
 }

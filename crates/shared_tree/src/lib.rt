@@ -13,11 +13,12 @@
 //! memory, and there is no lock beside the turns. No clause says that a turn comes free.
 //!
 //! - `machine`: the tree as a machine of the turn table;
-//! - `places`, `row`: what a call holds;
+//! - `boxed`, `places`, `row`: what a call holds;
 //! - `busy`, `calls`, `waits`: a call, which takes its turns or finds one held, or waits for each;
 //! - `tree`, `opening`, `closing`: the tree that is shared.
 #![tactic(auto)]
 
+mod boxed;
 mod busy;
 mod calls;
 mod closing;
@@ -30,6 +31,7 @@ mod tests;
 mod tree;
 mod waits;
 
+pub use boxed::Boxed;
 pub use busy::Busy;
 pub use closing::{Closed, TreeCloseRefused};
 pub use machine::{SlotValue, TreeMachine};

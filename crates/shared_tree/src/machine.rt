@@ -1,4 +1,5 @@
 // The tree as a machine of the turn table.
+use crate::boxed::Boxed;
 use entropy_source::EntropySource;
 use rbg_nodes::Node;
 use sample_source::Samples;
@@ -9,8 +10,8 @@ use turn_table::Machine;
 /// What one slot of a tree holds.
 #[derive(Drop)]
 pub enum SlotValue<S: Samples> {
-    Node(Node),
-    Source(EntropySource<S>),
+    Node(Boxed<Node>),
+    Source(Boxed<EntropySource<S>>),
 }
 
 /// A tree as the turn table sees it: one slot for each node and, behind them, one for each source. It has no value of its own. A reference to

@@ -7,6 +7,7 @@ ghost use Rattle.shared_tree.specs.Machine.{tree_meaning};
 ghost use Rattle.shared_tree.specs.Passes.{AreReady};
 ghost use Rattle.shared_tree.specs.Opens.{IsOpened, IsOpeningOf};
 
+use crate::boxed::Boxed;
 use crate::machine::{SlotValue, TreeMachine};
 use crate::tree::{SharedTree, TreePass};
 use entropy_source::EntropySource;
@@ -30,10 +31,10 @@ fn values_of<S: Samples>(
 {
     let mut slots = Vec::with_capacity(alloc, nodes.len() + sources.len())?;
     for node in nodes {
-        slots.push(SlotValue::Node(node))?;
+        slots.push(SlotValue::Node(Boxed::new(alloc, node)?))?;
     }
     for source in sources {
-        slots.push(SlotValue::Source(source))?;
+        slots.push(SlotValue::Source(Boxed::new(alloc, source)?))?;
     }
     Ok(slots)
 }
@@ -83,7 +84,8 @@ fn open_table<S: Samples>(
 
 impl<S: Samples> SharedTree<S> {
     /// Opens a tree as [`SoloTree::open`] does, opening calls included, and shares it between 1 to 64 callers, with a pass for each. The table of
-    /// turns is made after the opening calls: after want of memory their samples may have been read, and no others.
+    /// turns, with a box for each node and each source, is made after the opening calls: after want of memory their samples may have been read,
+    /// and no others.
     pub fn open(
         alloc: Global,
         plan: TreePlan,

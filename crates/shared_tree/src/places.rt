@@ -4,6 +4,7 @@ ghost use Rattle.std.specs.Borrow.{sem};
 ghost use Rattle.rbg_nodes.specs.Views.{NodeView};
 ghost use Rattle.tree_acts.specs.Lent.{LendsNode};
 
+use crate::boxed::Boxed;
 use rbg_nodes::Node;
 
 pub trait Places: Drop {
@@ -31,14 +32,14 @@ pub trait Places: Drop {
         ensures* after { sem 𝓛 (LendsNode Self.row self.entry result (λ w. with self.old slot w)) }
         ensures value { at self.old slot ≡ Some result.now };
 
-    fn put(&mut self, slot: u16, node: Node)
+    fn put(&mut self, slot: u16, node: Boxed<Node>)
         requires room { 0 < room self.old }
         requires free { at self.old slot ≡ None }
         ensures there { at self.new slot ≡ Some node }
         ensures others { (k : ℕ) → k ≢ slot → at self.new k ≡ at self.old k }
         ensures room { room self.new + 1 ≡ room self.old };
 
-    fn take(&mut self, slot: u16) -> Node
+    fn take(&mut self, slot: u16) -> Boxed<Node>
         requires { IsSome (at self.old slot) }
         ensures there { at self.old slot ≡ Some result }
         ensures others { (k : ℕ) → k ≢ slot → at self.new k ≡ at self.old k };
@@ -51,7 +52,7 @@ pub trait Places: Drop {
 #[derive(Drop)]
 pub enum Place {
     Empty,
-    Holds { slot: u16, node: Node },
+    Holds { slot: u16, node: Boxed<Node> },
 }
 
 impl Places for Place {
@@ -81,22 +82,22 @@ impl Places for Place {
     fn node(&self, slot: u16) -> &Node {
         match self {
             Place::Empty => unreachable!(),
-            Place::Holds { slot: _, node } => node,
+            Place::Holds { slot: _, node } => node.get(),
         }
     }
 
     fn node_mut(&mut self, slot: u16) -> &mut Node {
         match self {
             Place::Empty => unreachable!(),
-            Place::Holds { slot: _, node } => node,
+            Place::Holds { slot: _, node } => node.get_mut(),
         }
     }
 
-    fn put(&mut self, slot: u16, node: Node) {
+    fn put(&mut self, slot: u16, node: Boxed<Node>) {
         *self = Place::Holds { slot, node };
     }
 
-    fn take(&mut self, slot: u16) -> Node {
+    fn take(&mut self, slot: u16) -> Boxed<Node> {
         match std::mem::replace(self, Place::Empty) {
             Place::Empty => unreachable!(),
             Place::Holds { slot: _, node } => node,
@@ -149,7 +150,7 @@ impl<P: Places> Places for Two<P> {
         }
     }
 
-    fn put(&mut self, slot: u16, node: Node) {
+    fn put(&mut self, slot: u16, node: Boxed<Node>) {
         if self.one.is_full() {
             self.other.put(slot, node);
         } else {
@@ -157,7 +158,7 @@ impl<P: Places> Places for Two<P> {
         }
     }
 
-    fn take(&mut self, slot: u16) -> Node {
+    fn take(&mut self, slot: u16) -> Boxed<Node> {
         if self.one.has(slot) {
             self.one.take(slot)
         } else {

@@ -9,6 +9,7 @@ ghost use Rattle.shared_tree.specs.Both.{in_both};
 ghost use Rattle.shared_tree.specs.Sums.{room_both};
 ghost use Rattle.shared_tree.specs.Rows.{source_in, with_source, nodes_of, sources_of, what_of, room_of, places_of, cost, HasRoom, IsAlone, IsAt, Others};
 
+use crate::boxed::Boxed;
 use crate::machine::SlotValue;
 use crate::places::{Place, Places, Two};
 use entropy_source::EntropySource;
@@ -20,7 +21,7 @@ use tree_core::Holdings;
 #[derive(Drop)]
 pub enum SourcePlace<E: Drop> {
     Empty,
-    Holds { slot: u16, source: E },
+    Holds { slot: u16, source: Boxed<E> },
 }
 
 impl<E: Drop> SourcePlace<E> {
@@ -42,11 +43,11 @@ impl<E: Drop> SourcePlace<E> {
     {
         match self {
             SourcePlace::Empty => unreachable!(),
-            SourcePlace::Holds { slot: _, source } => source,
+            SourcePlace::Holds { slot: _, source } => source.get(),
         }
     }
 
-    fn take(&mut self, slot: u16) -> E
+    fn take(&mut self, slot: u16) -> Boxed<E>
         requires { IsSome (source_in self.old slot) }
         ensures there { source_in self.old slot ≡ Some result }
         ensures others { (k : ℕ) → k ≢ slot → source_in self.new k ≡ source_in self.old k }
@@ -64,7 +65,7 @@ impl<E: Drop> SourcePlace<E> {
     {
         match self {
             SourcePlace::Empty => unreachable!(),
-            SourcePlace::Holds { slot: _, source } => source,
+            SourcePlace::Holds { slot: _, source } => source.get_mut(),
         }
     }
 }

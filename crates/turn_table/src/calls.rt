@@ -7,8 +7,12 @@ use crate::machine::{Entered, Machine};
 use crate::pass::Pass;
 use crate::plays::{Commit, Fetch, Glance, Look, Release, Rest, Take};
 use crate::table::Turns;
+use std::hint::spin_loop;
 use std::sync::Wait;
 use std::sync::atomic::Ordering;
+
+// How often a pass looks at a turn before it sleeps, some 10 to 20 microseconds on processors of today.
+const LOOKS: u32 = 300;
 
 /// Who has the turn of a slot, and for which target.
 #[derive(Clone, Copy, Debug, PartialEq, Eq)]
@@ -131,8 +135,20 @@ impl<M: Machine> Turns<M> {
         unreachable!()
     }
 
-    /// Waits until the turn of a slot was seen free. Another pass may have taken it since. The pass has seen the whole history then.
-    pub fn wait_for<R: Wait>(&self, rt: &R, pass: &mut Pass<M>, slot: u16)
+    // Looks at the turn for a short time, as long as another pass has it.
+    fn spin(&self, slot: u16)
+        requires { slot < self.now.table.slots }
+    {
+        for _ in 0..LOOKS {
+            if self.table.shared.peek(2 + slot as usize) == 0 {
+                return;
+            }
+            spin_loop();
+        }
+    }
+
+    // Sleeps until the turn was seen free.
+    fn wait_long<R: Wait>(&self, rt: &R, pass: &mut Pass<M>, slot: u16)
         requires own { pass.old.table ≡ self.now.table }
         requires slot { slot < self.now.table.slots }
         ensures own { pass.new.table ≡ pass.old.table }
@@ -141,5 +157,20 @@ impl<M: Machine> Turns<M> {
         self.waiting.fetch_add(1, Ordering::SeqCst);
         self.look_until_free(rt, pass, slot);
         self.waiting.fetch_sub(1, Ordering::SeqCst);
+    }
+
+    /// Waits until the turn of a slot was seen free. Another pass may have taken it since. The pass has seen the whole history then. A turn that
+    /// comes free soon is waited for without sleep.
+    #[tactic(auto, using(crate::proofs::Looking::sees_same, crate::proofs::Looking::sees_on, crate::proofs::Looking::looks_on))]
+    pub fn wait_for<R: Wait>(&self, rt: &R, pass: &mut Pass<M>, slot: u16)
+        requires own { pass.old.table ≡ self.now.table }
+        requires slot { slot < self.now.table.slots }
+        ensures own { pass.new.table ≡ pass.old.table }
+        ensures looked { Looks M.meaning pass.old.view pass.new.view }
+    {
+        self.spin(slot);
+        if self.glance(pass, slot) != 0 {
+            self.wait_long(rt, pass, slot);
+        }
     }
 }
