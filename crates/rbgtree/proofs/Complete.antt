@@ -27,11 +27,13 @@ use Rattle.rbgtree.specs.declared.status.Status.{Status}
 use Rattle.rbgtree.specs.declared.status.Status.TheVariants.{Done, Usage, Config, Malformed, Cut, ReadFault, WriteFault, OpenFault, Memory, Quota, SeedShort, SourceRefused}
 use Rattle.session_core.specs.Answers.{Answered, AreRight}
 use Rattle.session_core.specs.Session.{IsHeld}
+use Rattle.session_core.proofs.Weaker.{held-weaker}
 use Rattle.rbgtree.specs.Files.{Entries, IsWholeFile}
 use Rattle.rbgtree.specs.Check.{HasNoPlan, HasChecked}
 use Rattle.rbgtree.specs.Commands.{IsSeedCommand, IsAnswerCommand, IsCheckCommand}
 use Rattle.rbgtree.specs.Statuses.{status_of}
-use Rattle.rbgtree.specs.Run.{Outside, Served, HasNoSeeds, IsShort, RanOver, RanPlan, RanSeed, RanAnswer, RanCheck, Ran, HasStatusCause}
+use Rattle.rbgtree.specs.Trees.{IsShort}
+use Rattle.rbgtree.specs.Run.{AreServed, Outside, Served, HasNoSeeds, RanOver, RanPlan, RanSeed, RanAnswer, RanCheck, Ran, HasStatusCause}
 use Rattle.rbgtree.specs.Seeds.{AreSeeds, IsFront, IsSeedOf, file_in, planned_file}
 use Rattle.rbgtree.specs.Complete.{NoneRose, IsToldFile, HasLongFile, CanBeServed, SeedCanBeServed, AnswerCanBeServed, CanBePassed, IsComplete}
 use Rattle.rbgtree.proofs.FileFronts.{is_file-unique}
@@ -81,10 +83,13 @@ one_file None name a b told whole = absurd told
 one_file (Some entries) name a b told whole = is_file-unique entries name a b told whole
 
 -- how a session that was held ended
-served_done : (file : NodePlan → Option (List ℕ)) (p : Tree) (seeds : List (List ℕ)) (before now : Outside) (status : Status) → (end : End) × (status ≡ status_of end) × Served p seeds before now end
+served_done : {S : Type 0} (told : S → Option (List ℕ)) (faults : S → ℕ) (reads : S → ℕ → Option (List ℕ) → S → Type 0) (file : NodePlan → Option (List ℕ)) (p : Tree) (seeds : List (List ℕ)) (before now : Outside) (status : Status) → (end : End) × (status ≡ status_of end) × Served told faults reads p seeds before now end
     → HasStatusCause before now status → NoneRose before now → CanBeServed file p before → (status ≡ Done) ⊎ (status ≡ Memory)
-served_done file p seeds before now status (end, is, served) cause calm can =
-    inl (is ∙ read_whole served.f served.o 1048576 end before now can.script can.asked can.input can.frames can.few calm (subst (λ (s : Status). HasStatusCause before now s) is cause) served.session)
+served_done told faults reads file p seeds before now status (end, is, served) cause calm can =
+    let f = served.tree.f in
+    let o = served.tree.o in
+    let held = held-weaker (AreServed faults reads f o served.between) (AreRight 1 f o []) 1048576 end before.left now.left before.out now.out (λ (es : List Answered) (r : AreServed faults reads f o served.between es). r.right) served.session in
+    inl (is ∙ read_whole f o 1048576 end before now can.script can.asked can.input can.frames can.few calm (subst (λ (s : Status). HasStatusCause before now s) is cause) held)
 
 -- a seed out of a file that is long enough isn't too short
 front_long : (files : Option Entries) (name bytes seed : List ℕ) (need : ℕ) → IsToldFile files name bytes → need ≤ length bytes → IsFront files name need seed → length seed < need → ⊥
@@ -137,21 +142,21 @@ module _ (file : NodePlan → Option (List ℕ)) (p : Tree) (seeds : List (List 
         by_file node plan (record { have = have; need = need }) e (subst (λ (r : NodeRow). too_short r (seed_in seeds node) ≡ Some (record { have = have; need = need })) row short)
         (file plan) refl (can.seeds node plan e) (are.each node plan e)
 
-module _ {S : Type 0} (told : S → Option (List ℕ)) (faults : S → ℕ) (file : NodePlan → Option (List ℕ)) (p : Tree) (before now : Outside) (have_files : HaveFiles file p) (calm : NoneRose before now) (can : CanBeServed file p before) where
-  over_done : (seeds : List (List ℕ)) (status : Status) → AreSeeds before.files file p.nodes seeds → RanOver told faults p seeds before now status → HasStatusCause before now status
+module _ {S : Type 0} (told : S → Option (List ℕ)) (faults : S → ℕ) (reads : S → ℕ → Option (List ℕ) → S → Type 0) (file : NodePlan → Option (List ℕ)) (p : Tree) (before now : Outside) (have_files : HaveFiles file p) (calm : NoneRose before now) (can : CanBeServed file p before) where
+  over_done : (seeds : List (List ℕ)) (status : Status) → AreSeeds before.files file p.nodes seeds → RanOver told faults reads p seeds before now status → HasStatusCause before now status
       → (status ≡ Done) ⊎ (status ≡ Memory)
   over_done seeds Memory are ran cause = inr refl
   over_done seeds (OpenFault count) are ran cause = absurd (calm.world cause.0)
   over_done seeds (SeedShort node have need) are (still, same, short) cause = absurd (none_short file p seeds before have_files are can node have need short)
-  over_done seeds Done are ran cause = served_done file p seeds before now Done ran cause calm can
-  over_done seeds Usage are ran cause = served_done file p seeds before now Usage ran cause calm can
-  over_done seeds (Config fault) are ran cause = served_done file p seeds before now (Config fault) ran cause calm can
-  over_done seeds (Malformed offset why) are ran cause = served_done file p seeds before now (Malformed offset why) ran cause calm can
-  over_done seeds (Cut offset) are ran cause = served_done file p seeds before now (Cut offset) ran cause calm can
-  over_done seeds (ReadFault count) are ran cause = served_done file p seeds before now (ReadFault count) ran cause calm can
-  over_done seeds (WriteFault count) are ran cause = served_done file p seeds before now (WriteFault count) ran cause calm can
-  over_done seeds (Quota frames) are ran cause = served_done file p seeds before now (Quota frames) ran cause calm can
-  over_done seeds (SourceRefused source) are ran cause = served_done file p seeds before now (SourceRefused source) ran cause calm can
+  over_done seeds Done are ran cause = served_done told faults reads file p seeds before now Done ran cause calm can
+  over_done seeds Usage are ran cause = served_done told faults reads file p seeds before now Usage ran cause calm can
+  over_done seeds (Config fault) are ran cause = served_done told faults reads file p seeds before now (Config fault) ran cause calm can
+  over_done seeds (Malformed offset why) are ran cause = served_done told faults reads file p seeds before now (Malformed offset why) ran cause calm can
+  over_done seeds (Cut offset) are ran cause = served_done told faults reads file p seeds before now (Cut offset) ran cause calm can
+  over_done seeds (ReadFault count) are ran cause = served_done told faults reads file p seeds before now (ReadFault count) ran cause calm can
+  over_done seeds (WriteFault count) are ran cause = served_done told faults reads file p seeds before now (WriteFault count) ran cause calm can
+  over_done seeds (Quota frames) are ran cause = served_done told faults reads file p seeds before now (Quota frames) ran cause calm can
+  over_done seeds (SourceRefused source) are ran cause = served_done told faults reads file p seeds before now (SourceRefused source) ran cause calm can
 
   without_seeds : (status : Status) → HasNoSeeds status → HasStatusCause before now status → (status ≡ Done) ⊎ (status ≡ Memory)
   without_seeds Memory none cause = inr refl
@@ -167,7 +172,7 @@ module _ {S : Type 0} (told : S → Option (List ℕ)) (faults : S → ℕ) (fil
   without_seeds (Quota frames) none cause = absurd none
   without_seeds (SourceRefused source) none cause = absurd none
 
-  plan_done : (status : Status) → RanPlan told faults file p before now status → HasStatusCause before now status → (status ≡ Done) ⊎ (status ≡ Memory)
+  plan_done : (status : Status) → RanPlan told faults reads file p before now status → HasStatusCause before now status → (status ≡ Done) ⊎ (status ≡ Memory)
   plan_done status (inl (none, same, still)) cause = without_seeds status none cause
   plan_done status (inr (seeds, are, ran)) cause = over_done seeds status are ran cause
 
@@ -221,25 +226,25 @@ check_done told faults reads words before now status can (left, inr (tree, (text
     none_refused told faults reads words before now status can
     (subst (λ (t : Tree). HasChecked told faults reads t before.recordings now.recordings before.out now.out status) planned did) cause calm
 
-module _ {S : Type 0} (told : S → Option (List ℕ)) (faults : S → ℕ) (words : List (List ℕ)) (before now : Outside) (status : Status) (cause : HasStatusCause before now status) (calm : NoneRose before now) where
-  seed_done : (name : List ℕ) → IsSeedCommand words name → RanSeed told faults name before now status → SeedCanBeServed words before → (status ≡ Done) ⊎ (status ≡ Memory)
+module _ {S : Type 0} (told : S → Option (List ℕ)) (faults : S → ℕ) (reads : S → ℕ → Option (List ℕ) → S → Type 0) (words : List (List ℕ)) (before now : Outside) (status : Status) (cause : HasStatusCause before now status) (calm : NoneRose before now) where
+  seed_done : (name : List ℕ) → IsSeedCommand words name → RanSeed told faults reads name before now status → SeedCanBeServed words before → (status ≡ Done) ⊎ (status ≡ Memory)
   seed_done name command ran can =
       let called : name ≡ can.name = let e : codes "seed" ∷ name ∷ [] ≡ codes "seed" ∷ can.name ∷ [] = sym command ∙ can.command in cc in
-      plan_done told faults (λ (plan : NodePlan). Some can.name) stock_tree before now (λ n plan at kind none. absurd cc) calm can.served status
-      (subst (λ (n : List ℕ). RanSeed told faults n before now status) called ran) cause
+      plan_done told faults reads (λ (plan : NodePlan). Some can.name) stock_tree before now (λ n plan at kind none. absurd cc) calm can.served status
+      (subst (λ (n : List ℕ). RanSeed told faults reads n before now status) called ran) cause
 
-  answer_done : (name : List ℕ) → IsAnswerCommand words name → RanAnswer told faults name before now status → AnswerCanBeServed words before → (status ≡ Done) ⊎ (status ≡ Memory)
+  answer_done : (name : List ℕ) → IsAnswerCommand words name → RanAnswer told faults reads name before now status → AnswerCanBeServed words before → (status ≡ Done) ⊎ (status ≡ Memory)
   answer_done name command ran can =
       let called : name ≡ can.name = let e : codes "answer" ∷ name ∷ [] ≡ codes "answer" ∷ can.name ∷ [] = sym command ∙ can.command in cc in
-      by (subst (λ (n : List ℕ). RanAnswer told faults n before now status) called ran) where
-        by : RanAnswer told faults can.name before now status → (status ≡ Done) ⊎ (status ≡ Memory)
+      by (subst (λ (n : List ℕ). RanAnswer told faults reads n before now status) called ran) where
+        by : RanAnswer told faults reads can.name before now status → (status ≡ Done) ⊎ (status ≡ Memory)
         by (inl (none, same, still)) = no_fault before.files can.name can.text can.tree before now status can.file can.plan none cause calm
         by (inr (tree, (text, whole, plan), ran)) =
             let same = one_file before.files can.name can.text text can.file whole in
             let one = plan_once can.text (Ok can.tree) (Ok tree) can.plan (subst (λ (t : List ℕ). Plan t (Ok tree)) (sym same) plan) in
             let planned : tree ≡ can.tree = cc in
-            plan_done told faults planned_file can.tree before now (have_files can.tree (plan_in_range can.text can.tree can.plan)) calm can.served status
-            (subst (λ (t : Tree). RanPlan told faults planned_file t before now status) planned ran) cause
+            plan_done told faults reads planned_file can.tree before now (have_files can.tree (plan_in_range can.text can.tree can.plan)) calm can.served status
+            (subst (λ (t : Tree). RanPlan told faults reads planned_file t before now status) planned ran) cause
 
 -- the words are one command
 seed_answer : (words : List (List ℕ)) (a b : List ℕ) → IsSeedCommand words a → IsAnswerCommand words b → ⊥
@@ -256,11 +261,11 @@ called_same words a b one other = let e : codes "check" ∷ a ∷ [] ≡ codes "
 
 pub complete : {S : Type 0} (told : S → Option (List ℕ)) (faults : S → ℕ) (reads : S → ℕ → Option (List ℕ) → S → Type 0) (words : List (List ℕ)) (before now : Outside) (status : Status)
     → Ran told faults reads words before now status → HasStatusCause before now status → IsComplete told faults reads words before now status
-complete told faults reads words before now status (inl (name, seed, ran)) cause calm (inl can) = seed_done told faults words before now status cause calm name seed ran can
+complete told faults reads words before now status (inl (name, seed, ran)) cause calm (inl can) = seed_done told faults reads words before now status cause calm name seed ran can
 complete told faults reads words before now status (inl (name, seed, ran)) cause calm (inr (inl can)) = absurd (seed_answer words name can.name seed can.command)
 complete told faults reads words before now status (inl (name, seed, ran)) cause calm (inr (inr can)) = absurd (seed_check words name can.name seed can.command)
 complete told faults reads words before now status (inr (inl (name, answer, ran))) cause calm (inl can) = absurd (seed_answer words can.name name can.command answer)
-complete told faults reads words before now status (inr (inl (name, answer, ran))) cause calm (inr (inl can)) = answer_done told faults words before now status cause calm name answer ran can
+complete told faults reads words before now status (inr (inl (name, answer, ran))) cause calm (inr (inl can)) = answer_done told faults reads words before now status cause calm name answer ran can
 complete told faults reads words before now status (inr (inl (name, answer, ran))) cause calm (inr (inr can)) = absurd (answer_check words name can.name answer can.command)
 complete told faults reads words before now status (inr (inr (inl (name, check, ran)))) cause calm (inl can) = absurd (seed_check words can.name name can.command check)
 complete told faults reads words before now status (inr (inr (inl (name, check, ran)))) cause calm (inr (inl can)) = absurd (answer_check words can.name name can.command check)

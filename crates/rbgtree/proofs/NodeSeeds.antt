@@ -13,8 +13,8 @@ use Rattle.tree_core.specs.Solo.{AreLong, seed_in}
 use Rattle.rbgtree.specs.declared.status.Status.{Status}
 use Rattle.rbgtree.specs.declared.status.Status.TheVariants as statuses
 use Rattle.rbgtree.specs.Files.{Entries, BeginsFile, IsWholeFile}
-use Rattle.rbgtree.specs.Run.{IsShort}
 use Rattle.rbgtree.specs.Seeds.{IsFront, IsSeedOf, AreSeeds}
+use Rattle.rbgtree.specs.Trees.{IsShort}
 
 -- what was read of a file is a front of it, or all
 pub front_read : (files : Option Entries) (name front : List ℕ) (need have : ℕ) → length front ≡ need → have ≤ need → (have ≡ need → BeginsFile files name front)

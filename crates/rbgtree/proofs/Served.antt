@@ -1,19 +1,23 @@
 -- A tree that was opened, a session's end as a status, and how the program ends without one.
 use Rattle.std.proofs.Common.{◌≡◌, ◌∷◌, ◌∙◌, ℕ, List, [], length, map, refl, sym, ap, subst}
 use Rattle.std.specs.Prelude.{Option, Err}
+use Rattle.entropy_source.specs.Views.{SourceView}
+use Rattle.rbg_nodes.specs.Views.{NodeView}
 use Rattle.tree_config.specs.Tree.{Tree}
 use Rattle.tree_rules.specs.History.{Entry, Opening}
 use Rattle.tree_rules.specs.Openings.{IsHistory}
 use Rattle.tree_core.specs.Made.{samples_in}
-use Rattle.tree_core.specs.Solo.{AreLong, IsCause, OpensAs, SoloView, StandAfter}
+use Rattle.tree_core.specs.Solo.{AreLong, IsCause, OpensBy, SoloView, StandAfter}
 use Rattle.tree_core.specs.declared.refusal.OpenRefusal.TheVariants as refusals
-use Rattle.session_core.specs.Answers.{Answered, AreRight}
+use Rattle.tree_core.proofs.Made.{samples_count}
+use Rattle.session_core.specs.Answers.{Answered, entries_of}
 use Rattle.session_core.specs.Session.{AreMade, HasReadCause, HasWriteCause, IsHeld}
 use Rattle.session_core.proofs.Weaker.{held-weaker}
 use Rattle.rbgtree.specs.Files.{Entries}
 use Rattle.rbgtree.specs.Recordings.{Recording, Recordings, recording_of}
 use Rattle.rbgtree.specs.Check.{HasNoPlan, HasOpenCause, HasPlanCause, OpensAll, sample_names, status_without}
-use Rattle.rbgtree.specs.Run.{Outside, HasNoTree, HasStatusCause, IsShort, IsUntouched, OpensTree, RanOver, Served}
+use Rattle.rbgtree.specs.Trees.{HasNoTree, IsShort, OpensTree}
+use Rattle.rbgtree.specs.Run.{AreServed, Outside, HasStatusCause, IsUntouched, RanOver, Served}
 use Rattle.rbgtree.specs.Statuses.{status_of}
 use Rattle.rbgtree.specs.declared.check.NotOpened.{NotOpened}
 use Rattle.rbgtree.specs.declared.check.NotOpened.TheVariants.{Fault, OutOfMemory}
@@ -31,42 +35,65 @@ module _ {S : Type 0} (told : S → Option (List ℕ)) (faults : S → ℕ) wher
   faults_of [] = refl
   faults_of (x ∷ xs) = ap (λ (l : List ℕ). faults x ∷ l) (faults_of xs)
 
-  pub opens_tree : (p : Tree) (seeds : List (List ℕ)) (before now : Option Recordings) (samples : List S) (t : SoloView S)
-      → OpensAll before now (sample_names p.sources) (map (recording_of told faults) samples) → OpensAs told faults p samples seeds t → OpensTree told faults p seeds before now t
-  opens_tree p seeds before now samples t opens is = record {
-    f = is.f;
-    o = is.o;
-    over = record {
-      plan_is = is.given.plan_is;
-      seeds_are = is.given.seeds_are;
-      opened = map (recording_of told faults) samples;
-      opens = opens;
-      told_are = is.given.told_are ∙ sym (told_of samples);
-      faults_are = is.given.faults_are ∙ sym (faults_of samples);
+  -- one of the samples for each source that stands
+  sample_count : (f : Opening) (o h : List Entry) (p : Tree) (nodes : List NodeView) (sources : List (SourceView S)) → StandAfter told faults f o h nodes sources → f.plan ≡ p
+      → length (samples_in sources) ≡ length p.sources
+  sample_count f o h p nodes sources stand is = samples_count sources ∙ (stand.source_count ∙ ap (λ (t : Tree). length t.sources) is)
+
+  pub opens_tree : (reads : S → ℕ → Option (List ℕ) → S → Type 0) (p : Tree) (seeds : List (List ℕ)) (before now : Option Recordings) (samples : List S) (t : SoloView S) → length samples ≡ length p.sources
+      → OpensAll before now (sample_names p.sources) (map (recording_of told faults) samples) → OpensBy told faults reads p samples seeds t → OpensTree told faults reads p seeds before now t
+  opens_tree reads p seeds before now samples t count opens by = let is = by.opens in record {
+    opened = record {
+      f = is.f;
+      o = is.o;
+      over = record {
+        plan_is = is.given.plan_is;
+        seeds_are = is.given.seeds_are;
+        opened = map (recording_of told faults) samples;
+        opens = opens;
+        told_are = is.given.told_are ∙ sym (told_of samples);
+        faults_are = is.given.faults_are ∙ sym (faults_of samples);
+      };
+      opening = is.is_opening;
+      samples = samples;
+      recorded = refl;
+      made = record { count = count; count_after = sample_count is.f is.o [] p t.nodes t.sources is.stand is.given.plan_is; made = by.made };
     };
-    opening = is.is_opening;
     plan = is.given.plan_is ∙ sym is.plan_is;
     stand = is.stand;
     calls = is.calls;
   }
 
-  pub served : (reads : S → ℕ → Option (List ℕ) → S → Type 0) (p : Tree) (seeds : List (List ℕ)) (before now : Outside) (t t' : SoloView S) (max : ℕ) (end : End) → OpensTree told faults p seeds before.recordings now.recordings t → max ≡ 1048576
-      → ((f : Opening) (o h : List Entry) → IsHistory f o h → f.plan ≡ t.plan → StandAfter told faults f o h t.nodes t.sources
-      → IsHeld (AreMade told faults reads f o h (samples_in t.sources) t.calls t') max end before.left now.left before.out now.out)
-      → Served p seeds before now end
-  served reads p seeds before now t t' max end tree is table = record {
-    f = tree.f;
-    o = tree.o;
-    over = tree.over;
-    opening = tree.opening;
-    session = held-weaker (AreMade told faults reads tree.f tree.o [] (samples_in t.sources) t.calls t') (AreRight 1 tree.f tree.o []) 1048576 end before.left now.left before.out now.out
-        (λ (es : List Answered) (made : AreMade told faults reads tree.f tree.o [] (samples_in t.sources) t.calls t' es). made.right)
-        (subst (λ (m : ℕ). IsHeld (AreMade told faults reads tree.f tree.o [] (samples_in t.sources) t.calls t') m end before.left now.left before.out now.out) is
-        (table tree.f tree.o [] (record { opening = tree.opening; legal = tt }) tree.plan tree.stand));
+  -- the entries of a session on a tree that was opened
+  are_served : (reads : S → ℕ → Option (List ℕ) → S → Type 0) (f : Opening) (o : List Entry) (t t' : SoloView S) (es : List Answered) → StandAfter told faults f o [] t.nodes t.sources
+      → AreMade told faults reads f o [] (samples_in t.sources) t.calls t' es → AreServed faults reads f o (samples_in t.sources) es
+  are_served reads f o t t' es stand made = record {
+    right = made.right;
+    after = samples_in t'.sources;
+    made = record {
+      count = sample_count f o [] f.plan t.nodes t.sources stand refl;
+      count_after = sample_count f o (entries_of es) f.plan t'.nodes t'.sources made.stand refl;
+      made = made.made;
+    };
   }
 
-  module _ (p : Tree) (seeds : List (List ℕ)) (before now : Outside) where
-    pub ran_served : (end : End) → Served p seeds before now end → RanOver told faults p seeds before now (status_of end)
+  pub served : (reads : S → ℕ → Option (List ℕ) → S → Type 0) (p : Tree) (seeds : List (List ℕ)) (before now : Outside) (t t' : SoloView S) (max : ℕ) (end : End) → OpensTree told faults reads p seeds before.recordings now.recordings t → max ≡ 1048576
+      → ((f : Opening) (o h : List Entry) → IsHistory f o h → f.plan ≡ t.plan → StandAfter told faults f o h t.nodes t.sources
+      → IsHeld (AreMade told faults reads f o h (samples_in t.sources) t.calls t') max end before.left now.left before.out now.out)
+      → Served told faults reads p seeds before now end
+  served reads p seeds before now t t' max end tree is table =
+      let f = tree.opened.f in
+      let o = tree.opened.o in record {
+        between = samples_in t.sources;
+        tree = tree.opened;
+        session = held-weaker (AreMade told faults reads f o [] (samples_in t.sources) t.calls t') (AreServed faults reads f o (samples_in t.sources)) 1048576 end before.left now.left before.out now.out
+            (λ (es : List Answered) (made : AreMade told faults reads f o [] (samples_in t.sources) t.calls t' es). are_served reads f o t t' es tree.stand made)
+            (subst (λ (m : ℕ). IsHeld (AreMade told faults reads f o [] (samples_in t.sources) t.calls t') m end before.left now.left before.out now.out) is
+            (table f o [] (record { opening = tree.opened.opening; legal = tt }) tree.plan tree.stand));
+      }
+
+  module _ (reads : S → ℕ → Option (List ℕ) → S → Type 0) (p : Tree) (seeds : List (List ℕ)) (before now : Outside) where
+    pub ran_served : (end : End) → Served told faults reads p seeds before now end → RanOver told faults reads p seeds before now (status_of end)
     ran_served (Read frames) served = (Read frames, refl, served)
     ran_served (Bad offset why) served = (Bad offset why, refl, served)
     ran_served (Cut offset) served = (Cut offset, refl, served)
@@ -75,11 +102,11 @@ module _ {S : Type 0} (told : S → Option (List ℕ)) (faults : S → ℕ) wher
     ran_served (Quota frames) served = (Quota frames, refl, served)
 
     pub ran_without : (why : NotOpened) (count : ℕ) → IsUntouched before now → AreLong p seeds (length p.nodes) → HasNoTree told faults p before.recordings now.recordings why
-        → RanOver told faults p seeds before now (status_without why count)
+        → RanOver told faults reads p seeds before now (status_without why count)
     ran_without Fault count still long none = (still, long, none)
     ran_without OutOfMemory count still long none = (still, none)
 
-    pub ran_short : (status : Status) → IsUntouched before now → now.recordings ≡ before.recordings → IsShort p seeds status → RanOver told faults p seeds before now status
+    pub ran_short : (status : Status) → IsUntouched before now → now.recordings ≡ before.recordings → IsShort p seeds status → RanOver told faults reads p seeds before now status
     ran_short (statuses.SeedShort node have need) still same short = (still, same, short)
     ran_short statuses.Done still same short = absurd short
     ran_short statuses.Usage still same short = absurd short

@@ -6,5 +6,6 @@ pub mod Printed
 pub mod Check
 pub mod Commands
 pub mod Seeds
+pub mod Trees
 pub mod Run
 pub mod Complete

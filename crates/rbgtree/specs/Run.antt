@@ -5,20 +5,18 @@ use Rattle.std.specs.declared.option.Option.{Option}
 use Rattle.rbg_bytes.specs.Streams.{Rose}
 use Rattle.tree_config.specs.Tree.{Tree, stock_tree}
 use Rattle.tree_config.specs.declared.plan.NodePlan.{NodePlan}
-use Rattle.tree_rules.specs.History.{Entry, Opening}
-use Rattle.tree_rules.specs.Openings.{IsOpening}
-use Rattle.session_core.specs.Answers.{AreRight}
+use Rattle.tree_rules.specs.History.{Entry, Opening, acts_of}
+use Rattle.session_core.specs.Answers.{Answered, AreRight, entries_of}
 use Rattle.session_core.specs.Session.{IsHeld}
 use Rattle.session_core.specs.declared.end.End.{End}
-use Rattle.tree_core.specs.Solo.{AreLong, IsCause, SoloView, StandAfter}
-use Rattle.tree_core.specs.declared.refusal.OpenRefusal.TheVariants as refusals
+use Rattle.tree_core.specs.Solo.{AreLong}
 use Rattle.rbgtree.specs.Files.{Entries}
-use Rattle.rbgtree.specs.Recordings.{Recording, Recordings}
-use Rattle.rbgtree.specs.Check.{IsPlanOf, HasNoPlan, HasChecked, HasNotOpened, OpensAll, sample_names}
+use Rattle.rbgtree.specs.Recordings.{Recordings}
+use Rattle.rbgtree.specs.Check.{IsPlanOf, HasNoPlan, HasChecked}
 use Rattle.rbgtree.specs.Commands.{IsSeedCommand, IsAnswerCommand, IsCheckCommand, IsNoCommand}
-use Rattle.rbgtree.specs.Seeds.{AreSeeds, IsOver, planned_file}
+use Rattle.rbgtree.specs.Seeds.{AreSeeds, planned_file}
 use Rattle.rbgtree.specs.Statuses.{status_of}
-use Rattle.rbgtree.specs.declared.check.NotOpened.{NotOpened}
+use Rattle.rbgtree.specs.Trees.{AreAllReads, HasNoTree, IsOpened, IsShort}
 use Rattle.rbgtree.specs.declared.check.NotOpened.TheVariants.{Fault, OutOfMemory}
 use Rattle.rbgtree.specs.declared.status.Status.{Status}
 use Rattle.rbgtree.specs.declared.status.Status.TheVariants.{Usage, Memory, ReadFault, WriteFault, OpenFault, SeedShort}
@@ -51,50 +49,32 @@ pub record IsUntouched (before now : Outside) : Type 0 where
   pub left : now.left ≡ before.left
   pub out : now.out ≡ before.out
 
+-- the entries of requests are right behind the opening calls o, by caller 1, and the reads among all their acts are those that were made,
+-- from these samples on
+pub record AreServed {S : Type 0} (faults : S → ℕ) (reads : S → ℕ → Option (List ℕ) → S → Type 0) (f : Opening) (o : List Entry) (samples : List S) (es : List Answered) : Type 0 where
+  pub right : AreRight 1 f o [] es
+  pub after : List S
+  pub made : AreAllReads faults reads f.plan samples after (acts_of (entries_of es))
+
 -- A tree of the plan was opened over these seeds and over the samples that the plan names, and one session of at most 1,048,576 frames
 -- was held on it. Its replies are those of entries by caller 1, one for each frame that was read, in order, which behind the opening calls
--- make a legal history, use no sample twice and are quiet after alarms.
-pub record Served (p : Tree) (seeds : List (List ℕ)) (before now : Outside) (end : End) : Type 0 where
-  pub f : Opening
-  pub o : List Entry
-  pub over : IsOver before.recordings now.recordings p seeds f
-  pub opening : IsOpening f o
-  pub session : IsHeld (AreRight 1 f o []) 1048576 end before.left now.left before.out now.out
-
--- the samples that the plan names were opened one after another
-abbrev pub HasOpened : Tree → Option Recordings → Option Recordings → Type 0
-HasOpened p before now = (opened : List Recording) × OpensAll before now (sample_names p.sources) opened
-
--- a tree that was opened so, and stands after its opening calls
-pub record OpensTree {S : Type 0} (told : S → Option (List ℕ)) (faults : S → ℕ) (p : Tree) (seeds : List (List ℕ)) (before now : Option Recordings) (t : SoloView S) : Type 0 where
-  pub f : Opening
-  pub o : List Entry
-  pub over : IsOver before now p seeds f
-  pub opening : IsOpening f o
-  pub plan : f.plan ≡ t.plan
-  pub stand : StandAfter told faults f o [] t.nodes t.sources
-  pub calls : t.calls ≡ 0
-
--- what became of the samples where no tree was opened: those of the first sources were opened and those of the next one could not be;
--- or, for want of memory, all were, or none
-abbrev pub HasNoTree : {S : Type 0} → (S → Option (List ℕ)) → (S → ℕ) → Tree → Option Recordings → Option Recordings → NotOpened → Type 0
-HasNoTree told faults p before now Fault = HasNotOpened told faults p.sources before now Fault
-HasNoTree told faults p before now OutOfMemory = (now ≡ before) ⊎ HasOpened p before now
-
--- how the program ends where the seed of a node, the least such one, is too short
-abbrev pub IsShort : Tree → List (List ℕ) → Status → Type 0
-IsShort p seeds (SeedShort node have need) = IsCause p seeds (refusals.SeedShort node have need)
-IsShort p seeds status = ⊥
+-- make a legal history, use no sample twice and are quiet after alarms. The reads among the acts of the opening calls, and then of these
+-- entries, are exactly those that were made of the samples that were opened.
+pub record Served {S : Type 0} (told : S → Option (List ℕ)) (faults : S → ℕ) (reads : S → ℕ → Option (List ℕ) → S → Type 0) (p : Tree) (seeds : List (List ℕ)) (before now : Outside)
+    (end : End) : Type 0 where
+  pub between : List S
+  pub tree : IsOpened told faults reads p seeds before.recordings now.recordings between
+  pub session : IsHeld (AreServed faults reads tree.f tree.o between) 1048576 end before.left now.left before.out now.out
 
 -- What was done with a plan and a seed for each node, by the status: no samples are opened where a seed is too short, of which the
 -- least node is told.
-abbrev pub RanOver : {S : Type 0} → (S → Option (List ℕ)) → (S → ℕ) → Tree → List (List ℕ) → Outside → Outside → Status → Type 0
-RanOver told faults p seeds before now Memory = IsUntouched before now × HasNoTree told faults p before.recordings now.recordings OutOfMemory
-RanOver told faults p seeds before now (OpenFault count) =
+abbrev pub RanOver : {S : Type 0} → (S → Option (List ℕ)) → (S → ℕ) → (S → ℕ → Option (List ℕ) → S → Type 0) → Tree → List (List ℕ) → Outside → Outside → Status → Type 0
+RanOver told faults reads p seeds before now Memory = IsUntouched before now × HasNoTree told faults p before.recordings now.recordings OutOfMemory
+RanOver told faults reads p seeds before now (OpenFault count) =
     IsUntouched before now × AreLong p seeds (length p.nodes) × HasNoTree told faults p before.recordings now.recordings Fault
-RanOver told faults p seeds before now (SeedShort node have need) =
+RanOver told faults reads p seeds before now (SeedShort node have need) =
     IsUntouched before now × (now.recordings ≡ before.recordings) × IsShort p seeds (SeedShort node have need)
-RanOver told faults p seeds before now status = (end : End) × (status ≡ status_of end) × Served p seeds before now end
+RanOver told faults reads p seeds before now status = (end : End) × (status ≡ status_of end) × Served told faults reads p seeds before now end
 
 -- how the program ends without seeds: for want of memory, or because a seed file could not be read
 abbrev pub HasNoSeeds : Status → Type 0
@@ -103,20 +83,20 @@ HasNoSeeds (OpenFault count) = Unit {0}
 HasNoSeeds status = ⊥
 
 -- what was done with a plan whose nodes have their seeds from these files: all seed files are read first
-abbrev pub RanPlan : {S : Type 0} → (S → Option (List ℕ)) → (S → ℕ) → (NodePlan → Option (List ℕ)) → Tree → Outside → Outside → Status → Type 0
-RanPlan told faults file p before now status =
+abbrev pub RanPlan : {S : Type 0} → (S → Option (List ℕ)) → (S → ℕ) → (S → ℕ → Option (List ℕ) → S → Type 0) → (NodePlan → Option (List ℕ)) → Tree → Outside → Outside → Status → Type 0
+RanPlan told faults reads file p before now status =
     (HasNoSeeds status × (now.recordings ≡ before.recordings) × IsUntouched before now)
-    ⊎ ((seeds : List (List ℕ)) × AreSeeds before.files file p.nodes seeds × RanOver told faults p seeds before now status)
+    ⊎ ((seeds : List (List ℕ)) × AreSeeds before.files file p.nodes seeds × RanOver told faults reads p seeds before now status)
 
 -- what `seed` did: the one node of the stock plan has its seed from the file of this name
-abbrev pub RanSeed : {S : Type 0} → (S → Option (List ℕ)) → (S → ℕ) → List ℕ → Outside → Outside → Status → Type 0
-RanSeed told faults name before now status = RanPlan told faults (λ (plan : NodePlan). Some name) stock_tree before now status
+abbrev pub RanSeed : {S : Type 0} → (S → Option (List ℕ)) → (S → ℕ) → (S → ℕ → Option (List ℕ) → S → Type 0) → List ℕ → Outside → Outside → Status → Type 0
+RanSeed told faults reads name before now status = RanPlan told faults reads (λ (plan : NodePlan). Some name) stock_tree before now status
 
 -- what `answer` did: with the plan of the file of this name, or without one
-abbrev pub RanAnswer : {S : Type 0} → (S → Option (List ℕ)) → (S → ℕ) → List ℕ → Outside → Outside → Status → Type 0
-RanAnswer told faults name before now status =
+abbrev pub RanAnswer : {S : Type 0} → (S → Option (List ℕ)) → (S → ℕ) → (S → ℕ → Option (List ℕ) → S → Type 0) → List ℕ → Outside → Outside → Status → Type 0
+RanAnswer told faults reads name before now status =
     (HasNoPlan before.files name status × (now.recordings ≡ before.recordings) × IsUntouched before now)
-    ⊎ ((tree : Tree) × IsPlanOf before.files name tree × RanPlan told faults planned_file tree before now status)
+    ⊎ ((tree : Tree) × IsPlanOf before.files name tree × RanPlan told faults reads planned_file tree before now status)
 
 -- what `check` did, by the status; it reads nothing from the input
 abbrev pub RanCheck : {S : Type 0} → (S → Option (List ℕ)) → (S → ℕ) → (S → ℕ → Option (List ℕ) → S → Type 0) → List ℕ → Outside → Outside → Status → Type 0
@@ -129,8 +109,8 @@ RanCheck told faults reads name before now status =
 -- they failed, and which reads lead from one value of them to another.
 abbrev pub Ran : {S : Type 0} → (S → Option (List ℕ)) → (S → ℕ) → (S → ℕ → Option (List ℕ) → S → Type 0) → List (List ℕ) → Outside → Outside → Status → Type 0
 Ran told faults reads words before now status =
-    ((name : List ℕ) × IsSeedCommand words name × RanSeed told faults name before now status)
-    ⊎ ((name : List ℕ) × IsAnswerCommand words name × RanAnswer told faults name before now status)
+    ((name : List ℕ) × IsSeedCommand words name × RanSeed told faults reads name before now status)
+    ⊎ ((name : List ℕ) × IsAnswerCommand words name × RanAnswer told faults reads name before now status)
     ⊎ ((name : List ℕ) × IsCheckCommand words name × RanCheck told faults reads name before now status)
     ⊎ (IsNoCommand words × (status ≡ Usage) × (now.recordings ≡ before.recordings) × IsUntouched before now)
 

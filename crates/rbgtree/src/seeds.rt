@@ -5,7 +5,7 @@ ghost use Rattle.rbg_nodes.specs.Views.{row_of, short_by};
 ghost use Rattle.tree_core.specs.Solo.{AreLong};
 ghost use Rattle.rbgtree.specs.Check.{HasOpenCause};
 ghost use Rattle.rbgtree.specs.Seeds.{IsFront, IsSeedOf, AreSeeds, planned_file};
-ghost use Rattle.rbgtree.specs.Run.{IsShort};
+ghost use Rattle.rbgtree.specs.Trees.{IsShort};
 
 use crate::check::NotOpened;
 use crate::files::read_front;

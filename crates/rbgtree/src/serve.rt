@@ -2,7 +2,8 @@
 ghost use Rattle.std.specs.Prelude.{◌≡◌, length, map, IfOk, IfErr};
 ghost use Rattle.tree_core.specs.Solo.{AreLong};
 ghost use Rattle.rbgtree.specs.Check.{HasOpenCause};
-ghost use Rattle.rbgtree.specs.Run.{outside_of, OpensTree, HasNoTree, RanOver, HasStatusCause};
+ghost use Rattle.rbgtree.specs.Trees.{OpensTree, HasNoTree};
+ghost use Rattle.rbgtree.specs.Run.{outside_of, RanOver, HasStatusCause};
 
 use crate::check::{NotOpened, not_opened, open_all};
 use crate::seeds::first_short;
@@ -26,7 +27,7 @@ fn open_tree<W: World>(
 ) -> Result<SoloTree<W::Samples>, NotOpened>
     requires count { length seeds.items ≡ length plan.nodes }
     requires long { AreLong plan (map (λ s. s.items) seeds.items) (length plan.nodes) }
-    ensures tree { IfOk result (OpensTree W.Samples.told W.Samples.faults plan (map (λ s. s.items) seeds.items) (W.recordings world.old) (W.recordings world.new)) }
+    ensures tree { IfOk result (OpensTree W.Samples.told W.Samples.faults W.Samples.reads plan (map (λ s. s.items) seeds.items) (W.recordings world.old) (W.recordings world.new)) }
     ensures none { IfErr result (HasNoTree W.Samples.told W.Samples.faults plan (W.recordings world.old) (W.recordings world.new)) }
     ensures files { W.files world.new ≡ W.files world.old }
     ensures cause { HasOpenCause (W.faults world.old) (W.faults world.new) result }
@@ -54,7 +55,7 @@ pub fn serve<W: World, I: ByteSource, O: ByteSink>(
 ) -> Status
     requires count { length seeds.items ≡ length plan.nodes }
     ensures ran { let at = outside_of W.files W.recordings W.faults I.left I.faults O.out O.faults in
-        RanOver W.Samples.told W.Samples.faults plan (map (λ s. s.items) seeds.items) (at world.old input.old output.old) (at world.new input.new output.new) result }
+        RanOver W.Samples.told W.Samples.faults W.Samples.reads plan (map (λ s. s.items) seeds.items) (at world.old input.old output.old) (at world.new input.new output.new) result }
     ensures files { W.files world.new ≡ W.files world.old }
     ensures cause { let at = outside_of W.files W.recordings W.faults I.left I.faults O.out O.faults in
         HasStatusCause (at world.old input.old output.old) (at world.new input.new output.new) result }

@@ -74,7 +74,7 @@ fn run_seed<W: World, I: ByteSource, O: ByteSink>(
     output: &mut O,
 ) -> Status
     ensures ran { let at = outside_of W.files W.recordings W.faults I.left I.faults O.out O.faults in
-        RanSeed W.Samples.told W.Samples.faults name.now (at world.old input.old output.old) (at world.new input.new output.new) result }
+        RanSeed W.Samples.told W.Samples.faults W.Samples.reads name.now (at world.old input.old output.old) (at world.new input.new output.new) result }
     ensures files { W.files world.new ≡ W.files world.old }
     ensures cause { let at = outside_of W.files W.recordings W.faults I.left I.faults O.out O.faults in
         HasStatusCause (at world.old input.old output.old) (at world.new input.new output.new) result }
@@ -97,7 +97,7 @@ fn run_plan<W: World, I: ByteSource, O: ByteSink>(
     output: &mut O,
 ) -> Status
     ensures ran { let at = outside_of W.files W.recordings W.faults I.left I.faults O.out O.faults in
-        RanPlan W.Samples.told W.Samples.faults planned_file plan (at world.old input.old output.old) (at world.new input.new output.new) result }
+        RanPlan W.Samples.told W.Samples.faults W.Samples.reads planned_file plan (at world.old input.old output.old) (at world.new input.new output.new) result }
     ensures files { W.files world.new ≡ W.files world.old }
     ensures cause { let at = outside_of W.files W.recordings W.faults I.left I.faults O.out O.faults in
         HasStatusCause (at world.old input.old output.old) (at world.new input.new output.new) result }

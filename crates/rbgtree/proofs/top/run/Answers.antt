@@ -23,7 +23,7 @@ returns-in-Ok-clause-ran g c =
     let now = at c.run_plan.new.world c.run_plan.new.input c.run_plan.new.output in
     let same = same_outside _ _ _ _ (g.I.ByteSource.left c.args.input.now) (g.O.ByteSink.out c.args.output.now) _ _ (g.I.ByteSource.faults c.args.input.now) (g.O.ByteSink.faults c.args.output.now)
     c.in-Ok.ensures.files c.in-Ok.ensures.recordings c.in-Ok.ensures.cause in
-    let ran = subst (λ (o : Outside). RanPlan g.W.Samples.Samples.told g.W.Samples.Samples.faults planned_file c.in-Ok.plan o now c.run_plan.result) same c.run_plan.ensures.ran in
+    let ran = subst (λ (o : Outside). RanPlan g.W.Samples.Samples.told g.W.Samples.Samples.faults g.W.Samples.Samples.reads planned_file c.in-Ok.plan o now c.run_plan.result) same c.run_plan.ensures.ran in
     let command = subst (λ (k : Command). IsCommand (map string_bytes c.args.words.now) k) c.in-Some-Answer.field-0-is c.in-Some-Answer.ensures.some in
     inr (inl (c.in-Some-Answer.name.now, command, inr (c.in-Ok.plan, c.in-Ok.ensures.plan, ran)))
 
