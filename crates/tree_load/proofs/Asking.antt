@@ -42,7 +42,7 @@ same_reseeds row c xs ys s = by (is_rs row.kind) where
   by true = same_gives row xs ys s
   by false = ap (reseeds_by row.interval c) (same_length xs ys s)
 
-replicate_weighs : (w : ℕ → ℕ) (k x : ℕ) → sum_of w (replicate k x) ≡ k * w x
+pub replicate_weighs : (w : ℕ → ℕ) (k x : ℕ) → sum_of w (replicate k x) ≡ k * w x
 replicate_weighs w zero x = omega arith
 replicate_weighs w (suc k) x = omega (arith, replicate_weighs w k x)
 

@@ -12,3 +12,6 @@ pub mod Totals
 pub mod Tallying
 pub mod Ordering
 pub mod Loading
+pub mod Weighing
+pub mod Summing
+pub mod Fitting

@@ -9,12 +9,13 @@ use Rattle.rbg_nodes.specs.Node.{entropy_len}
 use Rattle.rbg_nodes.specs.declared.node.NodeCounts.{NodeCounts}
 use Rattle.rbg_nodes.specs.declared.node.NodeRow.{NodeRow}
 use Rattle.tree_config.specs.Tree.{Tree}
-use Rattle.tree_rules.specs.Links.{is_rs, is_xor}
+use Rattle.tree_rules.specs.Links.{is_xor}
 use Rattle.tree_rules.specs.Slots.{node_plan, node_row, source_row}
 use Rattle.tree_core.specs.declared.solo.SourceCounts.{SourceCounts}
-use Rattle.tree_load.specs.Tally.{SameLengths, all_asks, all_blocks, asks, blocks_by, counter_for, is_child, is_from, node_by, reseeds_for, source_by, sum_of}
+use Rattle.tree_load.specs.Tally.{SameLengths, all_asks, all_blocks, asks, blocks_by, counter_for, is_child, is_from, node_by, reseeds_for, source_by, sum_of, drawn_len}
 use Rattle.tree_load.proofs.Asking.{flat_weighs, same_gives, same_length, same_reseeds, same_sums, sum-append}
-use Rattle.tree_load.proofs.Stepping.{by_length, counter_by}
+use Rattle.tree_load.specs.Weights.{by_length}
+use Rattle.tree_load.proofs.Stepping.{counter_by}
 use Rattle.tree_load.proofs.Tallying.{counts_eq}
 
 module _ (p : Tree) (c d : ℕ → ℕ) (counters : (m : ℕ) → c m ≡ d m) (own others : ℕ → List ℕ) (same : (n : ℕ) → SameLengths (own n) (others n)) where
@@ -70,7 +71,7 @@ module _ (p : Tree) (c d : ℕ → ℕ) (counters : (m : ℕ) → c m ≡ d m) (
 
   blocks_same : (row : SourceRow) (n : ℕ) → blocks_by (node_row p n) row (c n) (xs n) ≡ blocks_by (node_row p n) row (d n) (ys n)
   blocks_same row n =
-      let f : ℕ = blocks_for row (if is_rs (node_row p n).kind then entropy_len (node_row p n) + 8 else entropy_len (node_row p n)) in
+      let f : ℕ = blocks_for row (drawn_len (node_row p n)) in
       let a = ap (λ z. z * f) (reseeds (node_row p n) n (xs n) (ys n) (both n)) in
       let b = by (is_xor (node_row p n).kind) in omega (arith, a, b) where
         by : (b : Bool) → (if b then sum_of (λ k. blocks_for row k) (xs n) else 0) ≡ (if b then sum_of (λ k. blocks_for row k) (ys n) else 0)

@@ -9,6 +9,7 @@ use Rattle.tree_rules.specs.Links.{Gives, Link, is_rs, must_by, must_seed}
 use Rattle.tree_rules.proofs.Leaves.{or_false, slots}
 use Rattle.tree_acts.specs.Chained.{len_of}
 use Rattle.tree_load.specs.Tally.{SameLengths, chunks_for, counter_for, gives_for, reseeds_by, reseeds_for, sum_of}
+use Rattle.tree_load.specs.Weights.{by_length}
 use Rattle.tree_load.proofs.Asking.{same_gives, same_length, same_reseeds, length_weighs}
 use Rattle.tree_load.proofs.Climbing.{asked_at, counter_behind, due, less_of, moved, not_due, not_less, with_counter}
 use Rattle.tree_load.proofs.Moving.{gives_at, gives_of, none_given, none_moved, none_seeded, seeds_at, seeds_of}
@@ -31,10 +32,6 @@ pub record Steps (row : NodeRow) (k c d : ℕ) (ls : List Link) (xs ys : List �
   pub counter : counter_for row c xs ≡ counter_for row d ys
 
 -- a counter behind nothing, and behind something
-abbrev pub by_length : NodeRow → ℕ → ℕ → ℕ → ℕ
-by_length row c r zero = c
-by_length row c r (suc n) = if is_rs row.kind then 2 else c + suc n - row.interval * r
-
 pub counter_by : (row : NodeRow) (c : ℕ) (xs : List ℕ) → counter_for row c xs ≡ by_length row c (reseeds_for row c xs) (length xs)
 counter_by row c [] = refl
 counter_by row c (x ∷ xs) = refl

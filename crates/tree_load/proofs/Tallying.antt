@@ -26,7 +26,7 @@ use Rattle.tree_rules.proofs.Parting.{IsSource, opened_is_source, source_next}
 use Rattle.tree_rules.proofs.Parts.{both, states_parts}
 use Rattle.tree_rules.proofs.Seeding.{status_stays}
 use Rattle.tree_core.specs.declared.solo.SourceCounts.{SourceCounts}
-use Rattle.tree_load.specs.Tally.{all_asks, all_blocks, asks, blocks_by, counter_for, gives_for, is_child, is_from, node_by, reseeds_for, source_by, sum_of}
+use Rattle.tree_load.specs.Tally.{all_asks, all_blocks, asks, blocks_by, counter_for, gives_for, is_child, is_from, node_by, reseeds_for, source_by, sum_of, drawn_len}
 use Rattle.tree_load.specs.Tallied.{AreDone, IsPlain, asked_by, counts_at, source_counts_at, with_call}
 use Rattle.tree_load.proofs.Asking.{same_sums}
 use Rattle.tree_load.proofs.Capping.{entry_caps}
@@ -175,8 +175,8 @@ module _ (p : Tree) (plan : IsPlanned 0 p) (tree : IsTree 8 p.nodes) where
   no_blocks : (row : SourceRow) (q : NodeRow) (c : ℕ) (xs : List ℕ) → xs ≡ [] → blocks_by q row c xs ≡ 0
   no_blocks row q c xs none =
       ap (λ z. blocks_by q row c z) none
-      ∙ (ap (λ z. z * blocks_for row (if is_rs q.kind then entropy_len q + 8 else entropy_len q) + (if is_xor q.kind then 0 else 0)) (none_reseeds q c) ∙ by (is_xor q.kind)) where
-        by : (b : Bool) → 0 * blocks_for row (if is_rs q.kind then entropy_len q + 8 else entropy_len q) + (if b then 0 else 0) ≡ 0
+      ∙ (ap (λ z. z * blocks_for row (drawn_len q) + (if is_xor q.kind then 0 else 0)) (none_reseeds q c) ∙ by (is_xor q.kind)) where
+        by : (b : Bool) → 0 * blocks_for row (drawn_len q) + (if b then 0 else 0) ≡ 0
         by true = omega arith
         by false = omega arith
 
@@ -264,7 +264,7 @@ module _ (f : Opening) (o h es : List Entry) (is : IsHistory f o (h ++ es)) wher
   legal : Legal f.plan (states_after f.plan (opened f) o) h × Legal f.plan before es
   legal = both f.plan (states_after f.plan (opened f) o) h es is.legal
 
-  kept : AreKept f.plan is.opening.planned is.opening.tree before
+  pub kept : AreKept f.plan is.opening.planned is.opening.tree before
   kept = kept_after f.plan is.opening.planned is.opening.tree h (states_after f.plan (opened f) o) legal.0
       (kept_after f.plan is.opening.planned is.opening.tree o (opened f) is.opening.legal (opened_kept f is.opening.planned is.opening.tree))
 

@@ -23,7 +23,7 @@ use Rattle.tree_rules.proofs.Leaves.{slots}
 use Rattle.tree_rules.proofs.Near.{has_first, has_rest}
 use Rattle.tree_acts.specs.Chained.{len_of, rest_from}
 use Rattle.tree_acts.proofs.Counted.{of_chunks}
-use Rattle.tree_load.specs.Tally.{all_asks, all_blocks, blocks_by, chunks_for, is_from, reseeds_for, sum_of}
+use Rattle.tree_load.specs.Tally.{all_asks, all_blocks, blocks_by, chunks_for, drawn_len, is_from, reseeds_for, sum_of}
 use Rattle.tree_load.proofs.Asking.{nothing, same_sums, within}
 use Rattle.tree_load.proofs.Below.{all_low}
 use Rattle.tree_load.proofs.Climbing.{asked_at, climbs, moved, not_less, with_one}
@@ -39,13 +39,9 @@ no_bytes row = by row.cond where
   by conds.HmacSha256 = refl
   by conds.DfAes256 = refl
 
--- the bytes of a reseed, with those that RBG3(RS) adds
-abbrev size_of : NodeRow → ℕ
-size_of row = if is_rs row.kind then entropy_len row + 8 else entropy_len row
-
 -- the blocks of a node that is seeded so often, and is asked so many by its lengths
 abbrev blocks_of : NodeRow → (ℕ → ℕ) → ℕ → ℕ → ℕ
-blocks_of row f seeds asked = seeds * f (size_of row) + (if is_xor row.kind then asked else 0)
+blocks_of row f seeds asked = seeds * f (drawn_len row) + (if is_xor row.kind then asked else 0)
 
 -- what a link that gives draws
 rs_no_xor : (kind : NodeKind) → is_rs kind ≡ true → is_xor kind ≡ false
@@ -152,7 +148,7 @@ module _ (p : Tree) (plan : IsPlanned 0 p) (tree : IsTree 8 p.nodes) (s : States
   blocks_step : (row : SourceRow) (m : ℕ) → blocks_by (node_row p m) row (c m) (xs m)
       ≡ blocks_of (node_row p m) (blocks_for row) (seeds_at m ls) (asked_at (λ k. blocks_for row k) m ls) + blocks_by (node_row p m) row (moved c ls m) (ys m)
   blocks_step row m =
-      let f : ℕ = blocks_for row (size_of (node_row p m)) in
+      let f : ℕ = blocks_for row (drawn_len (node_row p m)) in
       let r = (steps m).reseeds in
       let a : reseeds_for (node_row p m) (c m) (xs m) * f ≡ seeds_at m ls * f + reseeds_for (node_row p m) (moved c ls m) (ys m) * f =
       ap (λ z. z * f) r ∙ add-mul (seeds_at m ls) (reseeds_for (node_row p m) (moved c ls m) (ys m)) f in
@@ -196,7 +192,7 @@ module _ (p : Tree) (plan : IsPlanned 0 p) (tree : IsTree 8 p.nodes) (s : States
     none_drawn m off =
         ap (λ z. blocks_of (node_row p m) (blocks_for row) z (asked_at (λ k. blocks_for row k) m ls)) (none_seeded m ls off)
         ∙ (ap (λ z. blocks_of (node_row p m) (blocks_for row) 0 z) (none_asked (λ k. blocks_for row k) m ls off) ∙ by (is_xor (node_row p m).kind)) where
-          by : (b : Bool) → 0 * blocks_for row (size_of (node_row p m)) + (if b then 0 else 0) ≡ 0
+          by : (b : Bool) → 0 * blocks_for row (drawn_len (node_row p m)) + (if b then 0 else 0) ≡ 0
           by true = omega arith
           by false = omega arith
 

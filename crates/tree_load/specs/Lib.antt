@@ -2,3 +2,4 @@ pub mod Load
 pub mod Made
 pub mod Tally
 pub mod Tallied
+pub mod Weights

@@ -71,12 +71,15 @@ asks (suc far) p counter own n =
 abbrev pub all_asks : Tree → (ℕ → ℕ) → (ℕ → List ℕ) → ℕ → List ℕ
 all_asks p counter own n = asks (length p.nodes) p counter own n
 
--- the blocks that a node draws on its source for the lengths that are asked of it: the entropy of each reseed, with 8 bytes more for
--- RBG3(RS), and for RBG3(XOR) as many bytes as it gives
+-- the bytes that a node draws on its source for each reseed: its entropy, and for RBG3(RS) 8 bytes more
+abbrev pub drawn_len : NodeRow → ℕ
+drawn_len row = if is_rs row.kind then entropy_len row + 8 else entropy_len row
+
+-- the blocks that a node draws for the lengths that are asked of it: those of each reseed, and for RBG3(XOR) those of as many bytes as it
+-- gives
 abbrev pub blocks_by : NodeRow → SourceRow → ℕ → List ℕ → ℕ
 blocks_by row source counter lens =
-    reseeds_for row counter lens * blocks_for source (if is_rs row.kind then entropy_len row + 8 else entropy_len row)
-    + (if is_xor row.kind then sum_of (λ len. blocks_for source len) lens else 0)
+    reseeds_for row counter lens * blocks_for source (drawn_len row) + (if is_xor row.kind then sum_of (λ len. blocks_for source len) lens else 0)
 
 -- whether an origin is source j
 abbrev pub is_from : ℕ → Origin → Bool

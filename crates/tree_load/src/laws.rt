@@ -1,5 +1,5 @@
 // Laws on the counts of a tree after calls. Each is a function without a body of its own, whose contract is the law; no program calls them.
-ghost use Rattle.std.specs.Prelude.{◌≡◌, ◌<◌, ◌++◌, ℕ, List, length, slice_get, Some};
+ghost use Rattle.std.specs.Prelude.{◌≡◌, ◌<◌, ◌≤◌, ◌^◌, ◌++◌, ℕ, List, length, slice_get, Some};
 ghost use Rattle.entropy_source.specs.Views.{SourceView};
 ghost use Rattle.rbg_nodes.specs.Views.{NodeView, counts_of};
 ghost use Rattle.rbg_nodes.specs.declared.node.NodeCounts.{NodeCounts};
@@ -11,6 +11,7 @@ ghost use Rattle.tree_load.specs.Load.{stated_calls};
 ghost use Rattle.tree_load.specs.Made.{AreMade};
 ghost use Rattle.tree_load.specs.Tally.{SameLengths, node_tally, source_tally};
 ghost use Rattle.tree_load.specs.Tallied.{AreDone, asked_by, asked_of, counts_at, source_counts_at, view_counts};
+ghost use Rattle.tree_load.specs.Weights.{AllFit, SourceFits};
 
 use sample_source::Samples;
 
@@ -47,4 +48,14 @@ pub fn loads_decide_counts<S: Samples>()
         AreMade S.told S.faults f o h (stated_calls count seed calls) done 0 nodes sources → (j : ℕ) (v : SourceView S) → slice_get sources j ≡ Some v →
         view_counts v ≡ source_tally f.plan (counts_at (states_behind f o h)) (asked_of (stated_calls count seed calls)) j
         (source_counts_at f.plan (states_behind f o h) j) }
+{}
+
+/// The numbers of every such run fit 64 bits, behind at most 2^46 entries in all, so that `node_tally` and `source_tally` compute its counts;
+/// of a source's where the counts after the run do.
+pub fn runs_fit()
+    ensures nodes { (f : Opening) (o h es : List Entry) → IsHistory f o (h ++ es) → AreDone es → length (h ++ es) ≤ 2 ^ 46 →
+        AllFit f.plan (counts_at (states_behind f o h)) (asked_by es) }
+    ensures sources { (f : Opening) (o h es : List Entry) → IsHistory f o (h ++ es) → AreDone es → (j : ℕ) →
+        (source_counts_at f.plan (states_behind f o (h ++ es)) j).blocks < 2 ^ 64 → (source_counts_at f.plan (states_behind f o (h ++ es)) j).taken < 2 ^ 64 →
+        SourceFits f.plan (counts_at (states_behind f o h)) (asked_by es) j (source_counts_at f.plan (states_behind f o h) j) }
 {}

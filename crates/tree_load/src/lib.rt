@@ -2,15 +2,20 @@
 //!
 //! - `stated`: the load generator, which states the calls;
 //! - `load`: the calls on the tree of one caller;
-//! - `laws`: the counts after calls, where the calls alone decide them.
+//! - `laws`: the counts after calls, where the calls alone decide them;
+//! - `tally`, `blocks`: those counts, computed for nodes and for sources as they are defined.
 #![tactic(auto)]
 
+mod blocks;
 mod laws;
 mod load;
 mod stated;
+mod tally;
 #[cfg(test)]
 mod tests;
 
-pub use laws::{calls_decide_counts, counts_know_no_order, loads_decide_counts};
+pub use blocks::source_tally;
+pub use laws::{calls_decide_counts, counts_know_no_order, loads_decide_counts, runs_fit};
 pub use load::{CallsMade, make_stated_calls};
 pub use stated::StatedCalls;
+pub use tally::node_tally;

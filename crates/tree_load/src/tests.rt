@@ -6,10 +6,10 @@ mod runs;
 
 use crate::StatedCalls;
 use plans::{
-    CLOSED, CLOSED_COUNTS, ENDING, ENDING_COUNTS, KINDS, KINDS_COUNTS, PAIRS, PAIRS_COUNTS,
-    PAIRS_OPENED,
+    CLOSED, CLOSED_COUNTS, ENDING, ENDING_COUNTS, KINDS, KINDS_COUNTS, KINDS_LATER, PAIRS,
+    PAIRS_COUNTS, PAIRS_LATER, PAIRS_OPENED,
 };
-use runs::run;
+use runs::{run, tells};
 use std::test::Fail;
 use tree_core::Call;
 
@@ -66,5 +66,14 @@ fn runs_end_with_the_counts_of_another_implementation(rt: HostRuntime) -> Result
     assert_eq!(rt; run(alloc, CLOSED, 10, 1, 10, CLOSED_COUNTS)?, true);
     assert_eq!(rt; run(alloc, KINDS, 150, 7, 0, KINDS_COUNTS)?, true);
     assert_eq!(rt; run(alloc, ENDING, 40, 3, 21, ENDING_COUNTS)?, true);
+    Ok(())
+}
+
+#[test]
+fn counts_are_told_as_another_implementation_counts(rt: HostRuntime) -> Result<(), Fail> {
+    let alloc = rt.alloc();
+    assert_eq!(rt; tells(alloc, PAIRS, 0, 1, PAIRS_OPENED)?, true);
+    assert_eq!(rt; tells(alloc, PAIRS, 20_000, 1, PAIRS_LATER)?, true);
+    assert_eq!(rt; tells(alloc, KINDS, 20_000, 5, KINDS_LATER)?, true);
     Ok(())
 }

@@ -53,6 +53,15 @@ node 3: live 1 counter 10 seeds 6 gives 509\n\
 source 0: taken 1464 blocks 11\n\
 source 1: taken 1504 blocks 12\n";
 
+// After 20,000 calls of seed 1.
+pub(crate) const PAIRS_LATER: &str = "\
+node 0: live 1 counter 47 seeds 102 gives 5096\n\
+node 1: live 1 counter 29 seeds 100 gives 4978\n\
+node 2: live 1 counter 31 seeds 51 gives 5030\n\
+node 3: live 1 counter 98 seeds 50 gives 4997\n\
+source 0: taken 5144 blocks 103\n\
+source 1: taken 5064 blocks 101\n";
+
 // A node on a source and its child, none of which is instantiated.
 pub(crate) const CLOSED: &str = "\
 version = 1\n\
@@ -142,6 +151,18 @@ node 5: live 1 counter 2 seeds 49 gives 48\n\
 node 6: live 1 counter 2 seeds 5 gives 17\n\
 source 0: taken 5224 blocks 105\n\
 source 1: taken 3304 blocks 57\n";
+
+// After 20,000 calls of seed 5.
+pub(crate) const KINDS_LATER: &str = "\
+node 0: live 1 counter 7 seeds 682 gives 4773\n\
+node 1: live 1 counter 3 seeds 842 gives 4207\n\
+node 2: live 1 counter 4 seeds 1921 gives 5763\n\
+node 3: live 1 counter 3 seeds 1412 gives 2824\n\
+node 4: live 1 counter 2 seeds 2842 gives 2842\n\
+node 5: live 1 counter 2 seeds 4947 gives 4946\n\
+node 6: live 1 counter 3 seeds 735 gives 2938\n\
+source 0: taken 424104 blocks 10577\n\
+source 1: taken 258024 blocks 6425\n";
 
 // An RBG1 that is soon exhausted, a child of it, and a node on a source.
 pub(crate) const ENDING: &str = "\
