@@ -29,11 +29,23 @@ pub fn calls_decide_counts()
 /// The order of the calls does not matter: where the counts before are the same, and of each node the same lengths are asked in whatever
 /// order, so are the counts after. So it is of two runs over one plan, from two histories that left the same counts.
 pub fn counts_know_no_order()
-    ensures nodes { (p : Tree) (before from : ℕ → NodeCounts) (own others : ℕ → List ℕ) → ((n : ℕ) → before n ≡ from n) →
-        ((n : ℕ) → SameLengths (own n) (others n)) → (n : ℕ) → node_tally p before own n ≡ node_tally p from others n }
-    ensures sources { (p : Tree) (before from : ℕ → NodeCounts) (own others : ℕ → List ℕ) → ((n : ℕ) → before n ≡ from n) →
-        ((n : ℕ) → SameLengths (own n) (others n)) → (j : ℕ) (source : SourceCounts) →
+    ensures nodes { (p : Tree) (before from : ℕ → NodeCounts) (own others : ℕ → List ℕ) → ((n : ℕ) → n < length p.nodes → before n ≡ from n) →
+        ((n : ℕ) → n < length p.nodes → SameLengths (own n) (others n)) → (n : ℕ) → n < length p.nodes →
+        node_tally p before own n ≡ node_tally p from others n }
+    ensures sources { (p : Tree) (before from : ℕ → NodeCounts) (own others : ℕ → List ℕ) → ((n : ℕ) → n < length p.nodes → before n ≡ from n) →
+        ((n : ℕ) → n < length p.nodes → SameLengths (own n) (others n)) → (j : ℕ) (source : SourceCounts) →
         source_tally p before own j source ≡ source_tally p from others j source }
+    ensures runs { (f g : Opening) (o q h i es fs : List Entry) → IsHistory f o (h ++ es) → IsHistory g q (i ++ fs) → f.plan ≡ g.plan →
+        AreDone es → AreDone fs →
+        ((n : ℕ) → n < length f.plan.nodes → counts_at (states_behind f o h) n ≡ counts_at (states_behind g q i) n) →
+        ((n : ℕ) → n < length f.plan.nodes → SameLengths (asked_by es n) (asked_by fs n)) → (n : ℕ) → n < length f.plan.nodes →
+        counts_at (states_behind f o (h ++ es)) n ≡ counts_at (states_behind g q (i ++ fs)) n }
+    ensures run_sources { (f g : Opening) (o q h i es fs : List Entry) → IsHistory f o (h ++ es) → IsHistory g q (i ++ fs) → f.plan ≡ g.plan →
+        AreDone es → AreDone fs →
+        ((n : ℕ) → n < length f.plan.nodes → counts_at (states_behind f o h) n ≡ counts_at (states_behind g q i) n) →
+        ((n : ℕ) → n < length f.plan.nodes → SameLengths (asked_by es n) (asked_by fs n)) → (j : ℕ) →
+        source_counts_at f.plan (states_behind f o h) j ≡ source_counts_at g.plan (states_behind g q i) j →
+        source_counts_at f.plan (states_behind f o (h ++ es)) j ≡ source_counts_at g.plan (states_behind g q (i ++ fs)) j }
 {}
 
 /// So it is of a load none of whose calls was refused: the counts of every node and every source after it are those that the plan, the
