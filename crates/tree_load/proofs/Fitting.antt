@@ -22,7 +22,8 @@ use Rattle.tree_rules.proofs.Growing.{counts_small}
 use Rattle.tree_load.specs.declared.tally.Weight.TheVariants.{One}
 use Rattle.tree_load.specs.Tally.{all_asks, asks, chunks_for, gives_for, is_child, reseeds_by, sum_of}
 use Rattle.tree_load.specs.Tallied.{AreDone, asked_by, counts_at, source_counts_at}
-use Rattle.tree_load.specs.Weights.{AllFit, SourceFits, weigh}
+use Rattle.tree_load.specs.Fits.{AllFit, SourceFits}
+use Rattle.tree_load.specs.Weights.{weigh}
 use Rattle.tree_load.proofs.Asking.{length_weighs}
 use Rattle.tree_load.proofs.Lining.{some_interval}
 use Rattle.tree_load.proofs.Tallying.{kept, nodes_decided, sources_decided}

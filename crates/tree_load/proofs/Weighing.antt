@@ -17,7 +17,8 @@ use Rattle.tree_load.specs.declared.tally.Weight.{Weight}
 use Rattle.tree_load.specs.declared.tally.Weight.TheVariants.{Chunks, One}
 use Rattle.tree_load.specs.Tally.{all_asks, asks, chunks_for, gives_for, is_child, is_parent, node_tally, reseeds_by, reseeds_for, sum_of}
 use Rattle.tree_load.specs.Tallied.{asked_of, with_call}
-use Rattle.tree_load.specs.Weights.{AllFit, by_length, weigh}
+use Rattle.tree_load.specs.Fits.{AllFit}
+use Rattle.tree_load.specs.Weights.{by_length, weigh}
 use Rattle.tree_load.proofs.Stepping.{counter_by}
 use Rattle.tree_load.proofs.Tallying.{counts_eq}
 use Rattle.tree_load.proofs.Asking.{flat_weighs, length_weighs, replicate_weighs, same_sums, sum-append}

@@ -3,3 +3,4 @@ pub mod Made
 pub mod Tally
 pub mod Tallied
 pub mod Weights
+pub mod Fits

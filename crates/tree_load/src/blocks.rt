@@ -5,7 +5,7 @@ ghost use Rattle.tree_rules.specs.Links.{is_xor};
 ghost use Rattle.tree_rules.specs.Slots.{node_plan, node_row, source_row_of};
 ghost use Rattle.tree_load.specs.Tally.{all_asks, all_blocks, blocks_by, drawn_len, is_from, source_tally};
 ghost use Rattle.tree_load.specs.Tallied.{asked_of};
-ghost use Rattle.tree_load.specs.Weights.{AllFit, SourceFits, counts_in};
+ghost use Rattle.tree_load.specs.Fits.{AllFit, SourceFits, counts_in};
 
 use crate::tally::{Weight, asked, entropy_len, is_rs, reseeds_of};
 use conditioner::{block_len, need};

@@ -11,7 +11,7 @@ ghost use Rattle.tree_load.specs.Load.{stated_calls};
 ghost use Rattle.tree_load.specs.Made.{AreMade};
 ghost use Rattle.tree_load.specs.Tally.{SameLengths, node_tally, source_tally};
 ghost use Rattle.tree_load.specs.Tallied.{AreDone, asked_by, asked_of, counts_at, source_counts_at, view_counts};
-ghost use Rattle.tree_load.specs.Weights.{AllFit, SourceFits};
+ghost use Rattle.tree_load.specs.Fits.{AllFit, SourceFits};
 
 use sample_source::Samples;
 

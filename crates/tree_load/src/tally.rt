@@ -5,7 +5,8 @@ ghost use Rattle.tree_rules.specs.Links.{is_rs};
 ghost use Rattle.tree_rules.specs.Slots.{node_row};
 ghost use Rattle.tree_load.specs.Tally.{all_asks, asks, gives_for, is_child, node_tally, reseeds_by, reseeds_for, sum_of};
 ghost use Rattle.tree_load.specs.Tallied.{asked_of, with_call};
-ghost use Rattle.tree_load.specs.Weights.{AllFit, IsWeight, by_length, counts_in, weigh};
+ghost use Rattle.tree_load.specs.Fits.{AllFit, counts_in};
+ghost use Rattle.tree_load.specs.Weights.{IsWeight, by_length, weigh};
 
 use rbg_nodes::NodeCounts;
 use tree_acts::parent;

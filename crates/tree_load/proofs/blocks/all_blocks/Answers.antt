@@ -2,7 +2,7 @@ use Rattle.std.proofs.Common.{◌≡◌, ◌∙◌, ℕ, ap, arith, sym}
 use Rattle.std.specs.Prelude.{unwrap_or}
 use Rattle.tree_rules.specs.Slots.{no_source, source_row, source_row_of}
 use Rattle.tree_load.specs.Tallied.{asked_of}
-use Rattle.tree_load.specs.Weights.{counts_in}
+use Rattle.tree_load.specs.Fits.{counts_in}
 use Rattle.tree_load.proofs.Summing.{one, other}
 use Rattle.tree_load.proofs.blocks.all_blocks.Goals as goal
 use Rattle.tree_load.proofs.blocks.all_blocks.Goals.{then-is_from, else-is_from}

@@ -2,7 +2,7 @@ use Rattle.std.proofs.Common.{◌≡◌, ◌<◌, ◌^◌}
 use Rattle.std.specs.List.{range_with_len}
 use Rattle.tree_load.specs.Tally.{all_blocks, sum_of}
 use Rattle.tree_load.specs.Tallied.{asked_of}
-use Rattle.tree_load.specs.Weights.{AllFit, counts_in}
+use Rattle.tree_load.specs.Fits.{AllFit, counts_in}
 use Rattle.tree_load.proofs.Summing.{blocks_at}
 use Rattle.tree_load.proofs.blocks.all_blocks.Given as goal
 

@@ -4,7 +4,8 @@ use Rattle.tree_rules.specs.Slots.{node_row, source_row_of}
 use Rattle.tree_load.specs.declared.tally.Weight.TheVariants.{Blocks}
 use Rattle.tree_load.specs.Tally.{all_asks, asks, drawn_len, sum_of}
 use Rattle.tree_load.specs.Tallied.{asked_of}
-use Rattle.tree_load.specs.Weights.{counts_in, weigh}
+use Rattle.tree_load.specs.Fits.{counts_in}
+use Rattle.tree_load.specs.Weights.{weigh}
 use Rattle.tree_load.proofs.Summing.{mixed_fits, mixed_is}
 use Rattle.tree_load.proofs.blocks.blocks_by.Goals as goal
 

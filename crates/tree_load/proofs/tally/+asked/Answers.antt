@@ -1,6 +1,6 @@
 use Rattle.std.proofs.Common.{◌∙◌, sym, arith}
 use Rattle.tree_load.specs.Tallied.{asked_of}
-use Rattle.tree_load.specs.Weights.{counts_in}
+use Rattle.tree_load.specs.Fits.{counts_in}
 use Rattle.tree_load.proofs.Weighing.{alone, begins, below_fits, child, ends, no_child}
 use Rattle.tree_load.proofs.tally.+asked.Goals as goal
 use Rattle.tree_load.proofs.tally.+asked.Goals.{then-is_child, else-is_child}

@@ -2,7 +2,8 @@ use Rattle.std.proofs.Common.{◌≡◌, ◌<◌, ◌+◌, ◌-◌, ◌^◌}
 use Rattle.std.specs.List.{range_with_len}
 use Rattle.tree_load.specs.Tally.{asks, sum_of}
 use Rattle.tree_load.specs.Tallied.{asked_of}
-use Rattle.tree_load.specs.Weights.{AllFit, counts_in, weigh}
+use Rattle.tree_load.specs.Fits.{AllFit, counts_in}
+use Rattle.tree_load.specs.Weights.{weigh}
 use Rattle.tree_load.proofs.Weighing.{hands}
 use Rattle.tree_load.proofs.tally.+asked.Given as goal
 

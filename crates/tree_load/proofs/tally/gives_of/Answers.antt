@@ -3,7 +3,8 @@ use Rattle.tree_rules.specs.Slots.{node_row}
 use Rattle.tree_load.specs.declared.tally.Weight.TheVariants.{Chunks, One}
 use Rattle.tree_load.specs.Tally.{all_asks, asks, sum_of}
 use Rattle.tree_load.specs.Tallied.{asked_of}
-use Rattle.tree_load.specs.Weights.{counts_in, weigh}
+use Rattle.tree_load.specs.Fits.{counts_in}
+use Rattle.tree_load.specs.Weights.{weigh}
 use Rattle.tree_load.proofs.Weighing.{asked_fits, chunks_fit, gives_chunks, gives_plain}
 use Rattle.tree_load.proofs.tally.gives_of.Goals as goal
 

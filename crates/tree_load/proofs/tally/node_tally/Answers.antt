@@ -3,7 +3,8 @@ use Rattle.rbg_nodes.specs.declared.node.NodeCounts.{NodeCounts}
 use Rattle.tree_load.specs.declared.tally.Weight.TheVariants.{One}
 use Rattle.tree_load.specs.Tally.{asks, sum_of}
 use Rattle.tree_load.specs.Tallied.{asked_of}
-use Rattle.tree_load.specs.Weights.{counts_in, weigh}
+use Rattle.tree_load.specs.Fits.{counts_in}
+use Rattle.tree_load.specs.Weights.{weigh}
 use Rattle.tree_load.proofs.Weighing.{asked_fits, tally_is}
 use Rattle.tree_load.proofs.tally.node_tally.Goals as goal
 

@@ -4,7 +4,8 @@ use Rattle.tree_rules.specs.Slots.{no_node, node_row}
 use Rattle.tree_load.specs.declared.tally.Weight.TheVariants.{One}
 use Rattle.tree_load.specs.Tally.{all_asks, asks, sum_of}
 use Rattle.tree_load.specs.Tallied.{asked_of}
-use Rattle.tree_load.specs.Weights.{counts_in, weigh}
+use Rattle.tree_load.specs.Fits.{counts_in}
+use Rattle.tree_load.specs.Weights.{weigh}
 use Rattle.tree_load.proofs.Weighing.{asked_fits, fits, reseeds_chunks, reseeds_plain}
 use Rattle.tree_load.proofs.tally.reseeds_of.Goals as goal
 
