@@ -1,6 +1,6 @@
 -- That the program ends with its work done where nothing stands in its way.
 use Rattle.std.proofs.Common.{◌≡◌, ◌≤◌, ◌<◌, ◌⊎◌, ℕ, zero, suc, ◌∷◌, List, [], ◌++◌, length, length-append, map, take, drop, refl, sym, ap, ◌∙◌, inl, inr, subst, arith, append-nil}
-use Rattle.std.specs.Prelude.{Bool, true, false, if◌then◌else◌, nat_lt, slice_get, unwrap_or, Option, Some, None, Ok, Err, codes}
+use Rattle.std.specs.Prelude.{Bool, true, false, if◌then◌else◌, nat_lt, slice_get, unwrap_or, Option, Some, None, Ok, Err, codes, decimal}
 use Rattle.std.proofs.lemmas.Bool.Decides.{nat_tests}
 use Rattle.std.specs.Io.KnownBytes.{Consumes, IsAtEnd}
 use Rattle.std.proofs.lemmas.List.{take-append-drop, length-map}
@@ -23,6 +23,7 @@ use Rattle.tree_config.specs.Tree.{Tree, Plan, stock_tree}
 use Rattle.tree_config.proofs.Once.{plan_once, plan_in_range}
 use Rattle.session_core.specs.declared.end.End.{End}
 use Rattle.session_core.specs.declared.end.End.TheVariants as ends
+use Rattle.rbgtree.specs.declared.load.Load.{Load}
 use Rattle.rbgtree.specs.declared.status.Status.{Status}
 use Rattle.rbgtree.specs.declared.status.Status.TheVariants.{Done, Usage, Config, Malformed, Cut, ReadFault, WriteFault, OpenFault, Memory, Quota, SeedShort, SourceRefused}
 use Rattle.session_core.specs.Answers.{Answered, AreRight}
@@ -30,12 +31,13 @@ use Rattle.session_core.specs.Session.{IsHeld}
 use Rattle.session_core.proofs.Weaker.{held-weaker}
 use Rattle.rbgtree.specs.Files.{Entries, IsWholeFile}
 use Rattle.rbgtree.specs.Check.{HasNoPlan, HasChecked}
-use Rattle.rbgtree.specs.Commands.{IsSeedCommand, IsAnswerCommand, IsCheckCommand}
+use Rattle.rbgtree.specs.Commands.{IsSeedCommand, IsAnswerCommand, IsCheckCommand, IsLoadCommand}
 use Rattle.rbgtree.specs.Statuses.{status_of}
-use Rattle.rbgtree.specs.Trees.{IsShort}
-use Rattle.rbgtree.specs.Run.{AreServed, Outside, Served, HasNoSeeds, RanOver, RanPlan, RanSeed, RanAnswer, RanCheck, Ran, HasStatusCause}
+use Rattle.rbgtree.specs.Trees.{EndedFrom, EndedOver, HasNoSeeds, IsShort}
+use Rattle.rbgtree.specs.Load.{HasLoaded, LoadedPlan}
+use Rattle.rbgtree.specs.Run.{AreServed, HasServed, IsUntouched, Outside, Served, RanPlan, RanSeed, RanAnswer, RanCheck, RanLoad, Ran, HasStatusCause}
 use Rattle.rbgtree.specs.Seeds.{AreSeeds, IsFront, IsSeedOf, file_in, planned_file}
-use Rattle.rbgtree.specs.Complete.{NoneRose, IsToldFile, HasLongFile, CanBeServed, SeedCanBeServed, AnswerCanBeServed, CanBePassed, IsComplete}
+use Rattle.rbgtree.specs.Complete.{NoneRose, IsToldFile, HasLongFile, HaveLongFiles, CanBeServed, SeedCanBeServed, AnswerCanBeServed, CanBePassed, LoadCanBeMade, IsComplete}
 use Rattle.rbgtree.proofs.FileFronts.{is_file-unique}
 
 -- bytes that were taken stand in front of the others
@@ -126,12 +128,12 @@ have_files p planned n plan at kind none =
     root_file plan.origin (subst (λ (k : NodeKind). Fits 1 (length p.sources) (length p.nodes) k plan.origin) kind (planned.node n plan at).origin) none
 
 -- where each seed file is told and long enough, no seed is too short
-module _ (file : NodePlan → Option (List ℕ)) (p : Tree) (seeds : List (List ℕ)) (before : Outside) (have_files : HaveFiles file p) (are : AreSeeds before.files file p.nodes seeds) (can : CanBeServed file p before) where
+module _ (file : NodePlan → Option (List ℕ)) (p : Tree) (seeds : List (List ℕ)) (before : Outside) (have_files : HaveFiles file p) (are : AreSeeds before.files file p.nodes seeds) (long : HaveLongFiles file p before.files) where
   by_file : (n : ℕ) (plan : NodePlan) (s : Short) → slice_get p.nodes n ≡ Some plan → short_by plan.kind (seed_len (row_of plan) New) (length (seed_in seeds n)) ≡ Some s
       → (f : Option (List ℕ)) → file plan ≡ f → HasLongFile before.files f plan → IsSeedOf before.files f plan (seed_in seeds n) → ⊥
   by_file n plan s at short None e has is = have_files n plan at (short_seed plan.kind (seed_len (row_of plan) New) (length (seed_in seeds n)) s short).1 e
-  by_file n plan s at short (Some name) e (bytes, told, long) is =
-      front_long before.files name bytes (seed_in seeds n) (seed_len (row_of plan) New) told long is (short_seed plan.kind (seed_len (row_of plan) New) (length (seed_in seeds n)) s short).0
+  by_file n plan s at short (Some name) e (bytes, told, most) is =
+      front_long before.files name bytes (seed_in seeds n) (seed_len (row_of plan) New) told most is (short_seed plan.kind (seed_len (row_of plan) New) (length (seed_in seeds n)) s short).0
 
   none_short : (node have need : ℕ) → IsShort p seeds (SeedShort node have need) → ⊥
   none_short node have need (less, short, before_it) = by (slice_get p.nodes node) refl where
@@ -140,41 +142,69 @@ module _ (file : NodePlan → Option (List ℕ)) (p : Tree) (seeds : List (List 
     by (Some plan) e =
         let row : node_row p node ≡ row_of plan = ap (λ (o : Option NodePlan). row_of (unwrap_or o no_node)) e in
         by_file node plan (record { have = have; need = need }) e (subst (λ (r : NodeRow). too_short r (seed_in seeds node) ≡ Some (record { have = have; need = need })) row short)
-        (file plan) refl (can.seeds node plan e) (are.each node plan e)
+        (file plan) refl (long node plan e) (are.each node plan e)
 
-module _ {S : Type 0} (told : S → Option (List ℕ)) (faults : S → ℕ) (reads : S → ℕ → Option (List ℕ) → S → Type 0) (file : NodePlan → Option (List ℕ)) (p : Tree) (before now : Outside) (have_files : HaveFiles file p) (calm : NoneRose before now) (can : CanBeServed file p before) where
-  over_done : (seeds : List (List ℕ)) (status : Status) → AreSeeds before.files file p.nodes seeds → RanOver told faults reads p seeds before now status → HasStatusCause before now status
+-- the work of a command that ends with its work done where no count of faults rose
+abbrev IsDoneWhere : (Status → Type 0) → Outside → Outside → Type 0
+IsDoneWhere Did before now = (status : Status) → Did status → HasStatusCause before now status → (status ≡ Done) ⊎ (status ≡ Memory)
+
+without_seeds : (before now : Outside) (calm : NoneRose before now) (status : Status) → HasNoSeeds status → HasStatusCause before now status → (status ≡ Done) ⊎ (status ≡ Memory)
+without_seeds before now calm Memory none cause = inr refl
+without_seeds before now calm (OpenFault count) none cause = absurd (calm.world cause.0)
+without_seeds before now calm (SeedShort node have need) none cause = absurd none
+without_seeds before now calm Done none cause = absurd none
+without_seeds before now calm Usage none cause = absurd none
+without_seeds before now calm (Config fault) none cause = absurd none
+without_seeds before now calm (Malformed offset why) none cause = absurd none
+without_seeds before now calm (Cut offset) none cause = absurd none
+without_seeds before now calm (ReadFault count) none cause = absurd none
+without_seeds before now calm (WriteFault count) none cause = absurd none
+without_seeds before now calm (Quota frames) none cause = absurd none
+without_seeds before now calm (SourceRefused source) none cause = absurd none
+
+module _ {S : Type 0} (told : S → Option (List ℕ)) (faults : S → ℕ) (file : NodePlan → Option (List ℕ)) (p : Tree) (before now : Outside) (have_files : HaveFiles file p) (calm : NoneRose before now)
+    (long : HaveLongFiles file p before.files) (idle : Type 0) where
+  over_done : (Did : Status → Type 0) → IsDoneWhere Did before now → (seeds : List (List ℕ)) (status : Status) → AreSeeds before.files file p.nodes seeds
+      → EndedOver told faults p seeds before.recordings now.recordings idle Did status → HasStatusCause before now status → (status ≡ Done) ⊎ (status ≡ Memory)
+  over_done Did did seeds Memory are ran cause = inr refl
+  over_done Did did seeds (OpenFault count) are ran cause = absurd (calm.world cause.0)
+  over_done Did did seeds (SeedShort node have need) are (still, same, short) cause = absurd (none_short file p seeds before have_files are long node have need short)
+  over_done Did did seeds Done are ran cause = did Done ran cause
+  over_done Did did seeds Usage are ran cause = did Usage ran cause
+  over_done Did did seeds (Config fault) are ran cause = did (Config fault) ran cause
+  over_done Did did seeds (Malformed offset why) are ran cause = did (Malformed offset why) ran cause
+  over_done Did did seeds (Cut offset) are ran cause = did (Cut offset) ran cause
+  over_done Did did seeds (ReadFault count) are ran cause = did (ReadFault count) ran cause
+  over_done Did did seeds (WriteFault count) are ran cause = did (WriteFault count) ran cause
+  over_done Did did seeds (Quota frames) are ran cause = did (Quota frames) ran cause
+  over_done Did did seeds (SourceRefused source) are ran cause = did (SourceRefused source) ran cause
+
+  from_done : (Did : List (List ℕ) → Status → Type 0) → ((seeds : List (List ℕ)) → IsDoneWhere (Did seeds) before now) → (status : Status)
+      → EndedFrom told faults before.files file p before.recordings now.recordings idle Did status → HasStatusCause before now status → (status ≡ Done) ⊎ (status ≡ Memory)
+  from_done Did did status (inl (none, same, still)) cause = without_seeds before now calm status none cause
+  from_done Did did status (inr (seeds, are, ran)) cause = over_done (Did seeds) (did seeds) seeds status are ran cause
+
+module _ {S : Type 0} (told : S → Option (List ℕ)) (faults : S → ℕ) (reads : S → ℕ → Option (List ℕ) → S → Type 0) (p : Tree) (before now : Outside) (calm : NoneRose before now) where
+  plan_done : (file : NodePlan → Option (List ℕ)) → HaveFiles file p → CanBeServed file p before → (status : Status) → RanPlan told faults reads file p before now status → HasStatusCause before now status
       → (status ≡ Done) ⊎ (status ≡ Memory)
-  over_done seeds Memory are ran cause = inr refl
-  over_done seeds (OpenFault count) are ran cause = absurd (calm.world cause.0)
-  over_done seeds (SeedShort node have need) are (still, same, short) cause = absurd (none_short file p seeds before have_files are can node have need short)
-  over_done seeds Done are ran cause = served_done told faults reads file p seeds before now Done ran cause calm can
-  over_done seeds Usage are ran cause = served_done told faults reads file p seeds before now Usage ran cause calm can
-  over_done seeds (Config fault) are ran cause = served_done told faults reads file p seeds before now (Config fault) ran cause calm can
-  over_done seeds (Malformed offset why) are ran cause = served_done told faults reads file p seeds before now (Malformed offset why) ran cause calm can
-  over_done seeds (Cut offset) are ran cause = served_done told faults reads file p seeds before now (Cut offset) ran cause calm can
-  over_done seeds (ReadFault count) are ran cause = served_done told faults reads file p seeds before now (ReadFault count) ran cause calm can
-  over_done seeds (WriteFault count) are ran cause = served_done told faults reads file p seeds before now (WriteFault count) ran cause calm can
-  over_done seeds (Quota frames) are ran cause = served_done told faults reads file p seeds before now (Quota frames) ran cause calm can
-  over_done seeds (SourceRefused source) are ran cause = served_done told faults reads file p seeds before now (SourceRefused source) ran cause calm can
+  plan_done file have_files can status ran cause =
+      from_done told faults file p before now have_files calm can.seeds (IsUntouched before now) (HasServed told faults reads p before now)
+      (λ seeds status served cause. served_done told faults reads file p seeds before now status served cause calm can) status ran cause
 
-  without_seeds : (status : Status) → HasNoSeeds status → HasStatusCause before now status → (status ≡ Done) ⊎ (status ≡ Memory)
-  without_seeds Memory none cause = inr refl
-  without_seeds (OpenFault count) none cause = absurd (calm.world cause.0)
-  without_seeds (SeedShort node have need) none cause = absurd none
-  without_seeds Done none cause = absurd none
-  without_seeds Usage none cause = absurd none
-  without_seeds (Config fault) none cause = absurd none
-  without_seeds (Malformed offset why) none cause = absurd none
-  without_seeds (Cut offset) none cause = absurd none
-  without_seeds (ReadFault count) none cause = absurd none
-  without_seeds (WriteFault count) none cause = absurd none
-  without_seeds (Quota frames) none cause = absurd none
-  without_seeds (SourceRefused source) none cause = absurd none
-
-  plan_done : (status : Status) → RanPlan told faults reads file p before now status → HasStatusCause before now status → (status ≡ Done) ⊎ (status ≡ Memory)
-  plan_done status (inl (none, same, still)) cause = without_seeds status none cause
-  plan_done status (inr (seeds, are, ran)) cause = over_done seeds status are ran cause
+  -- a load that was made
+  loaded_done : (load : Load) (seeds : List (List ℕ)) → IsDoneWhere (HasLoaded told faults reads p load before.recordings now.recordings before.out now.out seeds) before now
+  loaded_done load seeds Done did cause = inl refl
+  loaded_done load seeds (WriteFault count) did cause = absurd (calm.output cause.0)
+  loaded_done load seeds Memory did cause = absurd did
+  loaded_done load seeds (OpenFault count) did cause = absurd did
+  loaded_done load seeds (SeedShort node have need) did cause = absurd did
+  loaded_done load seeds Usage did cause = absurd did
+  loaded_done load seeds (Config fault) did cause = absurd did
+  loaded_done load seeds (Malformed offset why) did cause = absurd did
+  loaded_done load seeds (Cut offset) did cause = absurd did
+  loaded_done load seeds (ReadFault count) did cause = absurd did
+  loaded_done load seeds (Quota frames) did cause = absurd did
+  loaded_done load seeds (SourceRefused source) did cause = absurd did
 
 -- a configuration that has no fault is none with one
 no_fault : (files : Option Entries) (name text : List ℕ) (tree : Tree) (before now : Outside) (status : Status) → IsToldFile files name text → Plan text (Ok tree)
@@ -230,7 +260,7 @@ module _ {S : Type 0} (told : S → Option (List ℕ)) (faults : S → ℕ) (rea
   seed_done : (name : List ℕ) → IsSeedCommand words name → RanSeed told faults reads name before now status → SeedCanBeServed words before → (status ≡ Done) ⊎ (status ≡ Memory)
   seed_done name command ran can =
       let called : name ≡ can.name = let e : codes "seed" ∷ name ∷ [] ≡ codes "seed" ∷ can.name ∷ [] = sym command ∙ can.command in cc in
-      plan_done told faults reads (λ (plan : NodePlan). Some can.name) stock_tree before now (λ n plan at kind none. absurd cc) calm can.served status
+      plan_done told faults reads stock_tree before now calm (λ (plan : NodePlan). Some can.name) (λ n plan at kind none. absurd cc) can.served status
       (subst (λ (n : List ℕ). RanSeed told faults reads n before now status) called ran) cause
 
   answer_done : (name : List ℕ) → IsAnswerCommand words name → RanAnswer told faults reads name before now status → AnswerCanBeServed words before → (status ≡ Done) ⊎ (status ≡ Memory)
@@ -243,8 +273,22 @@ module _ {S : Type 0} (told : S → Option (List ℕ)) (faults : S → ℕ) (rea
             let same = one_file before.files can.name can.text text can.file whole in
             let one = plan_once can.text (Ok can.tree) (Ok tree) can.plan (subst (λ (t : List ℕ). Plan t (Ok tree)) (sym same) plan) in
             let planned : tree ≡ can.tree = cc in
-            plan_done told faults reads planned_file can.tree before now (have_files can.tree (plan_in_range can.text can.tree can.plan)) calm can.served status
+            plan_done told faults reads can.tree before now calm planned_file (have_files can.tree (plan_in_range can.text can.tree can.plan)) can.served status
             (subst (λ (t : Tree). RanPlan told faults reads planned_file t before now status) planned ran) cause
+
+  load_done : (name : List ℕ) (load : Load) → IsLoadCommand words name load → RanLoad told faults reads name load before now status → LoadCanBeMade words before → (status ≡ Done) ⊎ (status ≡ Memory)
+  load_done name load command ran can =
+      let called : name ≡ can.name = (let a = command.words_are in let b = can.command.words_are in cc) in
+      by (subst (λ (n : List ℕ). RanLoad told faults reads n load before now status) called ran) where
+        by : RanLoad told faults reads can.name load before now status → (status ≡ Done) ⊎ (status ≡ Memory)
+        by (left, inl (none, same, still)) = no_fault before.files can.name can.text can.tree before now status can.file can.plan none cause calm
+        by (left, inr (tree, (text, whole, plan), did)) =
+            let same = one_file before.files can.name can.text text can.file whole in
+            let one = plan_once can.text (Ok can.tree) (Ok tree) can.plan (subst (λ (t : List ℕ). Plan t (Ok tree)) (sym same) plan) in
+            let planned : tree ≡ can.tree = cc in
+            from_done told faults planned_file can.tree before now (have_files can.tree (plan_in_range can.text can.tree can.plan)) calm can.seeds (now.out ≡ before.out)
+            (HasLoaded told faults reads can.tree load before.recordings now.recordings before.out now.out) (loaded_done told faults reads can.tree before now calm load) status
+            (subst (λ (t : Tree). LoadedPlan told faults reads before.files t load before.recordings now.recordings before.out now.out status) planned did) cause
 
 -- the words are one command
 seed_answer : (words : List (List ℕ)) (a b : List ℕ) → IsSeedCommand words a → IsAnswerCommand words b → ⊥
@@ -256,6 +300,10 @@ seed_check words a b one other = let e : codes "seed" ∷ a ∷ [] ≡ codes "ch
 answer_check : (words : List (List ℕ)) (a b : List ℕ) → IsAnswerCommand words a → IsCheckCommand words b → ⊥
 answer_check words a b one other = let e : codes "answer" ∷ a ∷ [] ≡ codes "check" ∷ b ∷ [] = sym one ∙ other in absurd cc
 
+-- `load` has four words, and each other command two
+one_of_two : (words : List (List ℕ)) (a b name : List ℕ) (load : Load) → words ≡ a ∷ b ∷ [] → IsLoadCommand words name load → ⊥
+one_of_two words a b name load two command = let four = command.words_are in let e : a ∷ b ∷ [] ≡ codes "load" ∷ name ∷ decimal load.count ∷ decimal load.seed ∷ [] = sym two ∙ four in absurd cc
+
 called_same : (words : List (List ℕ)) (a b : List ℕ) → IsCheckCommand words a → IsCheckCommand words b → a ≡ b
 called_same words a b one other = let e : codes "check" ∷ a ∷ [] ≡ codes "check" ∷ b ∷ [] = sym one ∙ other in cc
 
@@ -263,14 +311,22 @@ pub complete : {S : Type 0} (told : S → Option (List ℕ)) (faults : S → ℕ
     → Ran told faults reads words before now status → HasStatusCause before now status → IsComplete told faults reads words before now status
 complete told faults reads words before now status (inl (name, seed, ran)) cause calm (inl can) = seed_done told faults reads words before now status cause calm name seed ran can
 complete told faults reads words before now status (inl (name, seed, ran)) cause calm (inr (inl can)) = absurd (seed_answer words name can.name seed can.command)
-complete told faults reads words before now status (inl (name, seed, ran)) cause calm (inr (inr can)) = absurd (seed_check words name can.name seed can.command)
+complete told faults reads words before now status (inl (name, seed, ran)) cause calm (inr (inr (inl can))) = absurd (seed_check words name can.name seed can.command)
+complete told faults reads words before now status (inl (name, seed, ran)) cause calm (inr (inr (inr can))) = absurd (one_of_two words (codes "seed") name can.name can.load seed can.command)
 complete told faults reads words before now status (inr (inl (name, answer, ran))) cause calm (inl can) = absurd (seed_answer words can.name name can.command answer)
 complete told faults reads words before now status (inr (inl (name, answer, ran))) cause calm (inr (inl can)) = answer_done told faults reads words before now status cause calm name answer ran can
-complete told faults reads words before now status (inr (inl (name, answer, ran))) cause calm (inr (inr can)) = absurd (answer_check words name can.name answer can.command)
+complete told faults reads words before now status (inr (inl (name, answer, ran))) cause calm (inr (inr (inl can))) = absurd (answer_check words name can.name answer can.command)
+complete told faults reads words before now status (inr (inl (name, answer, ran))) cause calm (inr (inr (inr can))) = absurd (one_of_two words (codes "answer") name can.name can.load answer can.command)
 complete told faults reads words before now status (inr (inr (inl (name, check, ran)))) cause calm (inl can) = absurd (seed_check words can.name name can.command check)
 complete told faults reads words before now status (inr (inr (inl (name, check, ran)))) cause calm (inr (inl can)) = absurd (answer_check words can.name name can.command check)
-complete told faults reads words before now status (inr (inr (inl (name, check, ran)))) cause calm (inr (inr can)) =
+complete told faults reads words before now status (inr (inr (inl (name, check, ran)))) cause calm (inr (inr (inl can))) =
     check_done told faults reads words before now status can (subst (λ (n : List ℕ). RanCheck told faults reads n before now status) (called_same words name can.name check can.command) ran) cause calm
-complete told faults reads words before now status (inr (inr (inr (none, usage, same, still)))) cause calm (inl can) = absurd (none.seed can.name can.command)
-complete told faults reads words before now status (inr (inr (inr (none, usage, same, still)))) cause calm (inr (inl can)) = absurd (none.answer can.name can.command)
-complete told faults reads words before now status (inr (inr (inr (none, usage, same, still)))) cause calm (inr (inr can)) = absurd (none.check can.name can.command)
+complete told faults reads words before now status (inr (inr (inl (name, check, ran)))) cause calm (inr (inr (inr can))) = absurd (one_of_two words (codes "check") name can.name can.load check can.command)
+complete told faults reads words before now status (inr (inr (inr (inl (name, load, command, ran))))) cause calm (inl can) = absurd (one_of_two words (codes "seed") can.name name load can.command command)
+complete told faults reads words before now status (inr (inr (inr (inl (name, load, command, ran))))) cause calm (inr (inl can)) = absurd (one_of_two words (codes "answer") can.name name load can.command command)
+complete told faults reads words before now status (inr (inr (inr (inl (name, load, command, ran))))) cause calm (inr (inr (inl can))) = absurd (one_of_two words (codes "check") can.name name load can.command command)
+complete told faults reads words before now status (inr (inr (inr (inl (name, load, command, ran))))) cause calm (inr (inr (inr can))) = load_done told faults reads words before now status cause calm name load command ran can
+complete told faults reads words before now status (inr (inr (inr (inr (none, usage, same, still))))) cause calm (inl can) = absurd (none.seed can.name can.command)
+complete told faults reads words before now status (inr (inr (inr (inr (none, usage, same, still))))) cause calm (inr (inl can)) = absurd (none.answer can.name can.command)
+complete told faults reads words before now status (inr (inr (inr (inr (none, usage, same, still))))) cause calm (inr (inr (inl can))) = absurd (none.check can.name can.command)
+complete told faults reads words before now status (inr (inr (inr (inr (none, usage, same, still))))) cause calm (inr (inr (inr can))) = absurd (none.load can.name can.load can.command)

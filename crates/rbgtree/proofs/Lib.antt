@@ -8,3 +8,5 @@ pub mod Depths
 pub mod Openings
 pub mod Plans
 pub mod Complete
+pub mod Counting
+pub mod Loading

@@ -16,7 +16,7 @@ use Rattle.session_core.proofs.Weaker.{held-weaker}
 use Rattle.rbgtree.specs.Files.{Entries}
 use Rattle.rbgtree.specs.Recordings.{Recording, Recordings, recording_of}
 use Rattle.rbgtree.specs.Check.{HasNoPlan, HasOpenCause, HasPlanCause, OpensAll, sample_names, status_without}
-use Rattle.rbgtree.specs.Trees.{HasNoTree, IsShort, OpensTree}
+use Rattle.rbgtree.specs.Trees.{EndedOver, HasNoTree, IsShort, OpensTree}
 use Rattle.rbgtree.specs.Run.{AreServed, Outside, HasStatusCause, IsUntouched, RanOver, Served}
 use Rattle.rbgtree.specs.Statuses.{status_of}
 use Rattle.rbgtree.specs.declared.check.NotOpened.{NotOpened}
@@ -36,7 +36,7 @@ module _ {S : Type 0} (told : S → Option (List ℕ)) (faults : S → ℕ) wher
   faults_of (x ∷ xs) = ap (λ (l : List ℕ). faults x ∷ l) (faults_of xs)
 
   -- one of the samples for each source that stands
-  sample_count : (f : Opening) (o h : List Entry) (p : Tree) (nodes : List NodeView) (sources : List (SourceView S)) → StandAfter told faults f o h nodes sources → f.plan ≡ p
+  pub sample_count : (f : Opening) (o h : List Entry) (p : Tree) (nodes : List NodeView) (sources : List (SourceView S)) → StandAfter told faults f o h nodes sources → f.plan ≡ p
       → length (samples_in sources) ≡ length p.sources
   sample_count f o h p nodes sources stand is = samples_count sources ∙ (stand.source_count ∙ ap (λ (t : Tree). length t.sources) is)
 
@@ -101,11 +101,6 @@ module _ {S : Type 0} (told : S → Option (List ℕ)) (faults : S → ℕ) wher
     ran_served (WriteFault count) served = (WriteFault count, refl, served)
     ran_served (Quota frames) served = (Quota frames, refl, served)
 
-    pub ran_without : (why : NotOpened) (count : ℕ) → IsUntouched before now → AreLong p seeds (length p.nodes) → HasNoTree told faults p before.recordings now.recordings why
-        → RanOver told faults reads p seeds before now (status_without why count)
-    ran_without Fault count still long none = (still, long, none)
-    ran_without OutOfMemory count still long none = (still, none)
-
     pub ran_short : (status : Status) → IsUntouched before now → now.recordings ≡ before.recordings → IsShort p seeds status → RanOver told faults reads p seeds before now status
     ran_short (statuses.SeedShort node have need) still same short = (still, same, short)
     ran_short statuses.Done still same short = absurd short
@@ -119,6 +114,12 @@ module _ {S : Type 0} (told : S → Option (List ℕ)) (faults : S → ℕ) wher
     ran_short statuses.Memory still same short = absurd short
     ran_short (statuses.Quota frames) still same short = absurd short
     ran_short (statuses.SourceRefused source) still same short = absurd short
+
+-- how the program ended where no tree was opened
+pub ended_without : {S : Type 0} (told : S → Option (List ℕ)) (faults : S → ℕ) (p : Tree) (seeds : List (List ℕ)) (before now : Option Recordings) (Idle : Type 0) (Did : Status → Type 0) (why : NotOpened)
+    (count : ℕ) → Idle → AreLong p seeds (length p.nodes) → HasNoTree told faults p before now why → EndedOver told faults p seeds before now Idle Did (status_without why count)
+ended_without told faults p seeds before now Idle Did Fault count idle long none = (idle, long, none)
+ended_without told faults p seeds before now Idle Did OutOfMemory count idle long none = (idle, none)
 
 -- seeds that are long enough are none that are too short
 pub not_short : (p : Tree) (seeds : List (List ℕ)) (node have need : ℕ) → AreLong p seeds (length p.nodes) → IsCause p seeds (refusals.SeedShort node have need) → ⊥

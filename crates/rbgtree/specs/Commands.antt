@@ -1,8 +1,9 @@
 -- The words of each command.
 -- This project's own.
-use Rattle.std.specs.Prelude.{◌≡◌, ℕ, List, [], ◌∷◌, codes}
+use Rattle.std.specs.Prelude.{◌≡◌, ◌≤◌, ◌<◌, ◌^◌, ℕ, List, [], ◌∷◌, codes, decimal}
+use Rattle.rbgtree.specs.declared.load.Load.{Load}
 use Rattle.rbgtree.specs.declared.top.Command.{Command}
-use Rattle.rbgtree.specs.declared.top.Command.TheVariants.{Seed, Answer, Check}
+use Rattle.rbgtree.specs.declared.top.Command.TheVariants as commands
 
 -- `seed` and the name of a file
 abbrev pub IsSeedCommand : List (List ℕ) → List ℕ → Type 0
@@ -16,14 +17,23 @@ IsAnswerCommand words name = words ≡ codes "answer" ∷ name ∷ []
 abbrev pub IsCheckCommand : List (List ℕ) → List ℕ → Type 0
 IsCheckCommand words name = words ≡ codes "check" ∷ name ∷ []
 
+-- `load`, the name of a file, and two numbers in decimal digits, without a sign and without leading zeros: how many calls, at most
+-- 10,000,000, and the seed
+pub record IsLoadCommand (words : List (List ℕ)) (name : List ℕ) (load : Load) : Type 0 where
+  pub words_are : words ≡ codes "load" ∷ name ∷ decimal load.count ∷ decimal load.seed ∷ []
+  pub count : load.count ≤ 10000000
+  pub seed : load.seed < 2 ^ 64
+
 -- the words are this command
 abbrev pub IsCommand : List (List ℕ) → Command → Type 0
-IsCommand words (Seed name) = IsSeedCommand words name.now
-IsCommand words (Answer name) = IsAnswerCommand words name.now
-IsCommand words (Check name) = IsCheckCommand words name.now
+IsCommand words (commands.Seed name) = IsSeedCommand words name.now
+IsCommand words (commands.Answer name) = IsAnswerCommand words name.now
+IsCommand words (commands.Check name) = IsCheckCommand words name.now
+IsCommand words (commands.Load name load) = IsLoadCommand words name.now load
 
 -- the words are no command
 pub record IsNoCommand (words : List (List ℕ)) : Type 0 where
   pub seed : (name : List ℕ) → IsSeedCommand words name → ⊥
   pub answer : (name : List ℕ) → IsAnswerCommand words name → ⊥
   pub check : (name : List ℕ) → IsCheckCommand words name → ⊥
+  pub load : (name : List ℕ) (load : Load) → IsLoadCommand words name load → ⊥

@@ -9,9 +9,10 @@ use Rattle.tree_config.specs.Tree.{Tree, Plan, stock_tree}
 use Rattle.tree_config.specs.declared.plan.NodePlan.{NodePlan}
 use Rattle.rbgtree.specs.Files.{Entries, IsFile}
 use Rattle.rbgtree.specs.Check.{HasTried, first_refused}
-use Rattle.rbgtree.specs.Commands.{IsSeedCommand, IsAnswerCommand, IsCheckCommand}
+use Rattle.rbgtree.specs.Commands.{IsSeedCommand, IsAnswerCommand, IsCheckCommand, IsLoadCommand}
 use Rattle.rbgtree.specs.Seeds.{planned_file}
 use Rattle.rbgtree.specs.Run.{Outside}
+use Rattle.rbgtree.specs.declared.load.Load.{Load}
 use Rattle.rbgtree.specs.declared.printed.SourceLine.{SourceLine}
 use Rattle.rbgtree.specs.declared.status.Status.{Status}
 use Rattle.rbgtree.specs.declared.status.Status.TheVariants.{Done, Memory}
@@ -32,9 +33,13 @@ abbrev pub HasLongFile : Option Entries → Option (List ℕ) → NodePlan → T
 HasLongFile files None plan = Unit {0}
 HasLongFile files (Some name) plan = (bytes : List ℕ) × IsToldFile files name bytes × (seed_len (row_of plan) New ≤ length bytes)
 
+-- those of all nodes are
+abbrev pub HaveLongFiles : (NodePlan → Option (List ℕ)) → Tree → Option Entries → Type 0
+HaveLongFiles file p files = (n : ℕ) (plan : NodePlan) → slice_get p.nodes n ≡ Some plan → HasLongFile files (file plan) plan
+
 -- seed files that are long enough, over an input that is whole frames, fewer than 1,048,576 of them
 pub record CanBeServed (file : NodePlan → Option (List ℕ)) (p : Tree) (before : Outside) : Type 0 where
-  pub seeds : (n : ℕ) (plan : NodePlan) → slice_get p.nodes n ≡ Some plan → HasLongFile before.files (file plan) plan
+  pub seeds : HaveLongFiles file p before.files
   pub script : List ℕ
   pub input : before.left ≡ Some script
   pub asked : List Asked
@@ -57,6 +62,17 @@ pub record AnswerCanBeServed (words : List (List ℕ)) (before : Outside) : Type
   pub plan : Plan text (Ok tree)
   pub served : CanBeServed planned_file tree before
 
+-- `load`, with a configuration that has no fault, and seed files that are long enough for its plan
+pub record LoadCanBeMade (words : List (List ℕ)) (before : Outside) : Type 0 where
+  pub name : List ℕ
+  pub load : Load
+  pub command : IsLoadCommand words name load
+  pub text : List ℕ
+  pub file : IsToldFile before.files name text
+  pub tree : Tree
+  pub plan : Plan text (Ok tree)
+  pub seeds : HaveLongFiles planned_file tree before.files
+
 -- `check`, with a configuration that has no fault, over samples of which each start is passed
 pub record CanBePassed {S : Type 0} (told : S → Option (List ℕ)) (faults : S → ℕ) (reads : S → ℕ → Option (List ℕ) → S → Type 0) (words : List (List ℕ)) (before now : Outside) : Type 0 where
   pub name : List ℕ
@@ -70,4 +86,4 @@ pub record CanBePassed {S : Type 0} (told : S → Option (List ℕ)) (faults : S
 -- the work is then done, unless memory is lacking
 abbrev pub IsComplete : {S : Type 0} → (S → Option (List ℕ)) → (S → ℕ) → (S → ℕ → Option (List ℕ) → S → Type 0) → List (List ℕ) → Outside → Outside → Status → Type 0
 IsComplete told faults reads words before now status =
-    NoneRose before now → SeedCanBeServed words before ⊎ AnswerCanBeServed words before ⊎ CanBePassed told faults reads words before now → (status ≡ Done) ⊎ (status ≡ Memory)
+    NoneRose before now → SeedCanBeServed words before ⊎ AnswerCanBeServed words before ⊎ CanBePassed told faults reads words before now ⊎ LoadCanBeMade words before → (status ≡ Done) ⊎ (status ≡ Memory)

@@ -7,5 +7,7 @@ pub mod Check
 pub mod Commands
 pub mod Seeds
 pub mod Trees
+pub mod Counts
+pub mod Load
 pub mod Run
 pub mod Complete

@@ -1,6 +1,6 @@
 -- What the program does, by the status that it ends with, and what each status rests on.
 -- This project's own.
-use Rattle.std.specs.Prelude.{◌≡◌, ◌⊎◌, ℕ, List, [], length, Some}
+use Rattle.std.specs.Prelude.{◌≡◌, ◌⊎◌, ℕ, List, [], Some}
 use Rattle.std.specs.declared.option.Option.{Option}
 use Rattle.rbg_bytes.specs.Streams.{Rose}
 use Rattle.tree_config.specs.Tree.{Tree, stock_tree}
@@ -9,17 +9,17 @@ use Rattle.tree_rules.specs.History.{Entry, Opening, acts_of}
 use Rattle.session_core.specs.Answers.{Answered, AreRight, entries_of}
 use Rattle.session_core.specs.Session.{IsHeld}
 use Rattle.session_core.specs.declared.end.End.{End}
-use Rattle.tree_core.specs.Solo.{AreLong}
 use Rattle.rbgtree.specs.Files.{Entries}
 use Rattle.rbgtree.specs.Recordings.{Recordings}
 use Rattle.rbgtree.specs.Check.{IsPlanOf, HasNoPlan, HasChecked}
-use Rattle.rbgtree.specs.Commands.{IsSeedCommand, IsAnswerCommand, IsCheckCommand, IsNoCommand}
-use Rattle.rbgtree.specs.Seeds.{AreSeeds, planned_file}
+use Rattle.rbgtree.specs.Commands.{IsSeedCommand, IsAnswerCommand, IsCheckCommand, IsLoadCommand, IsNoCommand}
+use Rattle.rbgtree.specs.Seeds.{planned_file}
 use Rattle.rbgtree.specs.Statuses.{status_of}
-use Rattle.rbgtree.specs.Trees.{AreAllReads, HasNoTree, IsOpened, IsShort}
-use Rattle.rbgtree.specs.declared.check.NotOpened.TheVariants.{Fault, OutOfMemory}
+use Rattle.rbgtree.specs.Trees.{AreAllReads, EndedFrom, EndedOver, IsOpened}
+use Rattle.rbgtree.specs.Load.{LoadedPlan}
+use Rattle.rbgtree.specs.declared.load.Load.{Load}
 use Rattle.rbgtree.specs.declared.status.Status.{Status}
-use Rattle.rbgtree.specs.declared.status.Status.TheVariants.{Usage, Memory, ReadFault, WriteFault, OpenFault, SeedShort}
+use Rattle.rbgtree.specs.declared.status.Status.TheVariants.{Usage, ReadFault, WriteFault, OpenFault}
 
 -- what is told of the world, the input and the output at a moment, and their counts of faults
 pub record Outside : Type 0 where
@@ -66,27 +66,19 @@ pub record Served {S : Type 0} (told : S → Option (List ℕ)) (faults : S → 
   pub tree : IsOpened told faults reads p seeds before.recordings now.recordings between
   pub session : IsHeld (AreServed faults reads tree.f tree.o between) 1048576 end before.left now.left before.out now.out
 
--- What was done with a plan and a seed for each node, by the status: no samples are opened where a seed is too short, of which the
--- least node is told.
+-- a session was held, and ended so
+abbrev pub HasServed : {S : Type 0} → (S → Option (List ℕ)) → (S → ℕ) → (S → ℕ → Option (List ℕ) → S → Type 0) → Tree → Outside → Outside → List (List ℕ) → Status → Type 0
+HasServed told faults reads p before now seeds status = (end : End) × (status ≡ status_of end) × Served told faults reads p seeds before now end
+
+-- what was done with a plan and a seed for each node
 abbrev pub RanOver : {S : Type 0} → (S → Option (List ℕ)) → (S → ℕ) → (S → ℕ → Option (List ℕ) → S → Type 0) → Tree → List (List ℕ) → Outside → Outside → Status → Type 0
-RanOver told faults reads p seeds before now Memory = IsUntouched before now × HasNoTree told faults p before.recordings now.recordings OutOfMemory
-RanOver told faults reads p seeds before now (OpenFault count) =
-    IsUntouched before now × AreLong p seeds (length p.nodes) × HasNoTree told faults p before.recordings now.recordings Fault
-RanOver told faults reads p seeds before now (SeedShort node have need) =
-    IsUntouched before now × (now.recordings ≡ before.recordings) × IsShort p seeds (SeedShort node have need)
-RanOver told faults reads p seeds before now status = (end : End) × (status ≡ status_of end) × Served told faults reads p seeds before now end
+RanOver told faults reads p seeds before now status =
+    EndedOver told faults p seeds before.recordings now.recordings (IsUntouched before now) (HasServed told faults reads p before now seeds) status
 
--- how the program ends without seeds: for want of memory, or because a seed file could not be read
-abbrev pub HasNoSeeds : Status → Type 0
-HasNoSeeds Memory = Unit {0}
-HasNoSeeds (OpenFault count) = Unit {0}
-HasNoSeeds status = ⊥
-
--- what was done with a plan whose nodes have their seeds from these files: all seed files are read first
+-- what was done with a plan whose nodes have their seeds from these files
 abbrev pub RanPlan : {S : Type 0} → (S → Option (List ℕ)) → (S → ℕ) → (S → ℕ → Option (List ℕ) → S → Type 0) → (NodePlan → Option (List ℕ)) → Tree → Outside → Outside → Status → Type 0
 RanPlan told faults reads file p before now status =
-    (HasNoSeeds status × (now.recordings ≡ before.recordings) × IsUntouched before now)
-    ⊎ ((seeds : List (List ℕ)) × AreSeeds before.files file p.nodes seeds × RanOver told faults reads p seeds before now status)
+    EndedFrom told faults before.files file p before.recordings now.recordings (IsUntouched before now) (HasServed told faults reads p before now) status
 
 -- what `seed` did: the one node of the stock plan has its seed from the file of this name
 abbrev pub RanSeed : {S : Type 0} → (S → Option (List ℕ)) → (S → ℕ) → (S → ℕ → Option (List ℕ) → S → Type 0) → List ℕ → Outside → Outside → Status → Type 0
@@ -105,6 +97,13 @@ RanCheck told faults reads name before now status =
     × ((HasNoPlan before.files name status × (now.recordings ≡ before.recordings) × (now.out ≡ before.out))
     ⊎ ((tree : Tree) × IsPlanOf before.files name tree × HasChecked told faults reads tree before.recordings now.recordings before.out now.out status))
 
+-- what `load` did, by the status; it reads nothing from the input
+abbrev pub RanLoad : {S : Type 0} → (S → Option (List ℕ)) → (S → ℕ) → (S → ℕ → Option (List ℕ) → S → Type 0) → List ℕ → Load → Outside → Outside → Status → Type 0
+RanLoad told faults reads name load before now status =
+    (now.left ≡ before.left)
+    × ((HasNoPlan before.files name status × (now.recordings ≡ before.recordings) × (now.out ≡ before.out))
+    ⊎ ((tree : Tree) × IsPlanOf before.files name tree × LoadedPlan told faults reads before.files tree load before.recordings now.recordings before.out now.out status))
+
 -- what was done, by the words and the status; files stay as they are. The first three arguments say what samples tell, how often
 -- they failed, and which reads lead from one value of them to another.
 abbrev pub Ran : {S : Type 0} → (S → Option (List ℕ)) → (S → ℕ) → (S → ℕ → Option (List ℕ) → S → Type 0) → List (List ℕ) → Outside → Outside → Status → Type 0
@@ -112,6 +111,7 @@ Ran told faults reads words before now status =
     ((name : List ℕ) × IsSeedCommand words name × RanSeed told faults reads name before now status)
     ⊎ ((name : List ℕ) × IsAnswerCommand words name × RanAnswer told faults reads name before now status)
     ⊎ ((name : List ℕ) × IsCheckCommand words name × RanCheck told faults reads name before now status)
+    ⊎ ((name : List ℕ) × (load : Load) × IsLoadCommand words name load × RanLoad told faults reads name load before now status)
     ⊎ (IsNoCommand words × (status ≡ Usage) × (now.recordings ≡ before.recordings) × IsUntouched before now)
 
 -- no count of faults grew

@@ -2,18 +2,20 @@
 -- This project's own.
 use Rattle.std.specs.Prelude.{◌≡◌, ◌⊎◌, ℕ, List, [], length, map, Option}
 use Rattle.tree_config.specs.Tree.{Tree}
+use Rattle.tree_config.specs.declared.plan.NodePlan.{NodePlan}
 use Rattle.tree_rules.specs.History.{Act, Entry, Opening, acts_of}
 use Rattle.tree_rules.specs.Openings.{IsOpening}
 use Rattle.tree_core.specs.Made.{AreReads, samples_in}
-use Rattle.tree_core.specs.Solo.{IsCause, SoloView, StandAfter}
+use Rattle.tree_core.specs.Solo.{AreLong, IsCause, SoloView, StandAfter}
 use Rattle.tree_core.specs.declared.refusal.OpenRefusal.TheVariants as refusals
+use Rattle.rbgtree.specs.Files.{Entries}
 use Rattle.rbgtree.specs.Recordings.{Recording, Recordings, recording_of}
 use Rattle.rbgtree.specs.Check.{HasNotOpened, OpensAll, sample_names}
-use Rattle.rbgtree.specs.Seeds.{IsOver}
+use Rattle.rbgtree.specs.Seeds.{AreSeeds, IsOver}
 use Rattle.rbgtree.specs.declared.check.NotOpened.{NotOpened}
 use Rattle.rbgtree.specs.declared.check.NotOpened.TheVariants.{Fault, OutOfMemory}
 use Rattle.rbgtree.specs.declared.status.Status.{Status}
-use Rattle.rbgtree.specs.declared.status.Status.TheVariants.{SeedShort}
+use Rattle.rbgtree.specs.declared.status.Status.TheVariants.{Memory, OpenFault, SeedShort}
 
 -- The reads among these acts are exactly those that were made of the samples of a plan's sources, from these to those, one for each source,
 -- also where they tell nothing.
@@ -56,3 +58,24 @@ HasNoTree told faults p before now OutOfMemory = (now ≡ before) ⊎ HasOpened 
 abbrev pub IsShort : Tree → List (List ℕ) → Status → Type 0
 IsShort p seeds (SeedShort node have need) = IsCause p seeds (refusals.SeedShort node have need)
 IsShort p seeds status = ⊥
+
+-- How the program ended over a plan and a seed for each node, by the status: no samples are opened where a seed is too short, of which the
+-- least node is told. `Idle` says that no work was begun, and `Did` by each other status what was done.
+abbrev pub EndedOver : {S : Type 0} → (S → Option (List ℕ)) → (S → ℕ) → Tree → List (List ℕ) → Option Recordings → Option Recordings → Type 0 → (Status → Type 0) → Status → Type 0
+EndedOver told faults p seeds before now Idle Did Memory = Idle × HasNoTree told faults p before now OutOfMemory
+EndedOver told faults p seeds before now Idle Did (OpenFault count) = Idle × AreLong p seeds (length p.nodes) × HasNoTree told faults p before now Fault
+EndedOver told faults p seeds before now Idle Did (SeedShort node have need) = Idle × (now ≡ before) × IsShort p seeds (SeedShort node have need)
+EndedOver told faults p seeds before now Idle Did status = Did status
+
+-- how the program ends without seeds: for want of memory, or because a seed file could not be read
+abbrev pub HasNoSeeds : Status → Type 0
+HasNoSeeds Memory = Unit {0}
+HasNoSeeds (OpenFault count) = Unit {0}
+HasNoSeeds status = ⊥
+
+-- how the program ended over a plan whose nodes have their seeds from these files: all seed files are read first
+abbrev pub EndedFrom : {S : Type 0} → (S → Option (List ℕ)) → (S → ℕ) → Option Entries → (NodePlan → Option (List ℕ)) → Tree → Option Recordings → Option Recordings → Type 0
+    → (List (List ℕ) → Status → Type 0) → Status → Type 0
+EndedFrom told faults files file p before now Idle Did status =
+    (HasNoSeeds status × (now ≡ before) × Idle)
+    ⊎ ((seeds : List (List ℕ)) × AreSeeds files file p.nodes seeds × EndedOver told faults p seeds before now Idle (Did seeds) status)

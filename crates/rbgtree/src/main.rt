@@ -3,15 +3,18 @@
 //! - `top`: what each command does, `run`;
 //! - `files` and `seeds`: what is read from files, the plan and its nodes' seeds;
 //! - `serve`: a tree over them, and one session of frames on it;
+//! - `load`: stated calls on such a tree, and `counts`, the lines that are printed of them;
 //! - `check`: one start of each source of a configuration, and `printed`, the lines that are printed of it;
 //! - `status` and `lines`: how the program ends, as a number and as a line;
 //! - `world`: what is asked of the outside beside input and output, `memory_world` and `host` what meets it.
 #![tactic(auto)]
 
 mod check;
+mod counts;
 mod files;
 mod host;
 mod lines;
+mod load;
 mod memory_world;
 mod printed;
 mod seeds;
@@ -62,6 +65,8 @@ fn main(rt: HostRuntime) -> ExitCode {
 mod answer_tests;
 #[cfg(test)]
 mod check_tests;
+#[cfg(test)]
+mod load_tests;
 #[cfg(test)]
 mod tests;
 #[cfg(test)]

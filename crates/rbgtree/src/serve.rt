@@ -18,8 +18,8 @@ use tree_core::{OpenRefusal, SoloTree};
 /// The most frames of a session.
 const MAX_FRAMES: u64 = 1_048_576;
 
-// A tree of the plan over its samples, which are opened in order, and over these seeds, none of them too short.
-fn open_tree<W: World>(
+/// A tree of the plan over its samples, which are opened in order, and over these seeds, none of them too short.
+pub fn open_tree<W: World>(
     alloc: Global,
     plan: TreePlan,
     seeds: Vec<Vec<u8>>,

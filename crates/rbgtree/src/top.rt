@@ -11,6 +11,7 @@ use crate::check::{
     BLANK, MAX_SOURCES, NotOpened, first_refused, not_opened, open_all, print, try_all,
 };
 use crate::files::read_plan;
+use crate::load::{Load, load_of, run_load};
 use crate::seeds::{read_seed, read_seeds};
 use crate::serve::serve;
 use crate::status::Status;
@@ -24,6 +25,34 @@ enum Command<'a> {
     Seed(&'a str),
     Answer(&'a str),
     Check(&'a str),
+    Load(&'a str, Load),
+}
+
+// The command that two words are.
+fn file_command<'a>(command: &str, name: &'a str) -> Option<Command<'a>>
+    ensures some { IfSome result (IsCommand (command.now ∷ name.now ∷ [])) }
+    ensures none { IfNone result (IsNoCommand (command.now ∷ name.now ∷ [])) }
+{
+    match command {
+        "seed" => Some(Command::Seed(name)),
+        "answer" => Some(Command::Answer(name)),
+        "check" => Some(Command::Check(name)),
+        _ => None,
+    }
+}
+
+// The command that four words are.
+fn load_command<'a>(command: &str, name: &'a str, count: &str, seed: &str) -> Option<Command<'a>>
+    ensures some { IfSome result (IsCommand (command.now ∷ name.now ∷ count.now ∷ seed.now ∷ [])) }
+    ensures none { IfNone result (IsNoCommand (command.now ∷ name.now ∷ count.now ∷ seed.now ∷ [])) }
+{
+    match command {
+        "load" => match load_of(count, seed) {
+            Some(load) => Some(Command::Load(name, load)),
+            None => None,
+        },
+        _ => None,
+    }
 }
 
 // The command that the words are.
@@ -31,13 +60,14 @@ fn command_of(words: &[String]) -> Option<Command<'_>>
     ensures some { IfSome result (IsCommand (map string_bytes words.now)) }
     ensures none { IfNone result (IsNoCommand (map string_bytes words.now)) }
 {
-    let [command, name] = words else {
-        return None;
-    };
-    match command.as_str() {
-        "seed" => Some(Command::Seed(name.as_str())),
-        "answer" => Some(Command::Answer(name.as_str())),
-        "check" => Some(Command::Check(name.as_str())),
+    match words {
+        [command, name] => file_command(command.as_str(), name.as_str()),
+        [command, name, count, seed] => load_command(
+            command.as_str(),
+            name.as_str(),
+            count.as_str(),
+            seed.as_str(),
+        ),
         _ => None,
     }
 }
@@ -147,6 +177,9 @@ fn check<W: World, O: ByteSink>(
 /// - `check CONFIG`: the samples of each source of the configuration are opened, in order, each source is started once, and a
 ///   line is printed of each source and of each node. Where samples could not be opened, those of the sources before were, and
 ///   nothing is printed. Nothing is read from the input.
+/// - `load CONFIG N SEED`: N calls that SEED states, at most 10,000,000, are made one after another on a tree as that of `answer`, and a
+///   line is printed of their number, of how many were Done and how many refused, and of the counts of each node and of each source.
+///   Nothing is read from the input.
 ///
 /// Where memory is lacking, nothing was read from the input, and nothing was written.
 pub fn run<W: World, I: ByteSource, O: ByteSink>(
@@ -172,6 +205,10 @@ pub fn run<W: World, I: ByteSource, O: ByteSink>(
         },
         Some(Command::Check(name)) => match read_plan(alloc, name, world) {
             Ok(plan) => check(alloc, &plan, world, output),
+            Err(status) => status,
+        },
+        Some(Command::Load(name, load)) => match read_plan(alloc, name, world) {
+            Ok(plan) => run_load(alloc, plan, load, world, output),
             Err(status) => status,
         },
         None => Status::Usage,

@@ -7,12 +7,14 @@ use Rattle.entropy_source.specs.Views.{SourceView}
 use Rattle.rbg_nodes.specs.Views.{NodeView}
 use Rattle.tree_rules.specs.declared.call.Call.{Call}
 use Rattle.tree_rules.specs.declared.reply.Reply.{Reply}
-use Rattle.tree_rules.specs.History.{Entry, Opening, opened}
+use Rattle.tree_rules.specs.History.{Act, Entry, Opening, acts_of, opened}
 use Rattle.tree_rules.specs.Openings.{IsHistory}
 use Rattle.tree_rules.specs.Stands.{StandAfter}
 use Rattle.tree_rules.specs.Apart.{Apart}
 use Rattle.tree_rules.specs.Quiet.{Quiet}
+use Rattle.tree_core.specs.Made.{AreReads, samples_in}
 use Rattle.tree_core.specs.Solo.{GoesOn}
+use Rattle.tree_core.proofs.Made.{acts_more, reads_none, reads_on, samples_count}
 use Rattle.tree_load.specs.Load.{number, reached, stated_call, stated_calls}
 use Rattle.tree_load.specs.Made.{AreMade, is_done, is_refused}
 
@@ -49,10 +51,10 @@ count_push test (x ∷ es) e = by (test x) (count_push test es e) where
   by true h = omega (arith, h)
   by false h = h
 
-module _ {S : Type 0} (told : S → Option (List ℕ)) (faults : S → ℕ) (f : Opening) (o h : List Entry) where
+module _ {S : Type 0} (told : S → Option (List ℕ)) (faults : S → ℕ) (reads : S → ℕ → Option (List ℕ) → S → Type 0) (f : Opening) (o h : List Entry) where
   -- no call
   pub none_made : (nodes : List NodeView) (sources : List (SourceView S)) → IsHistory f o h → Apart f.plan (o ++ h) → Quiet f.plan (opened f) (o ++ h)
-      → StandAfter told faults f o h nodes sources → AreMade told faults f o h [] 0 0 nodes sources
+      → StandAfter told faults f o h nodes sources → AreMade told faults reads f o h (samples_in sources) [] 0 0 nodes sources
   none_made nodes sources history apart quiet stand =
       let same : h ++ [] ≡ h = append-nil h in record {
         entries = [];
@@ -63,16 +65,17 @@ module _ {S : Type 0} (told : S → Option (List ℕ)) (faults : S → ℕ) (f :
         apart = subst (λ (x : List Entry). Apart f.plan (o ++ x)) (sym same) apart;
         quiet = subst (λ (x : List Entry). Quiet f.plan (opened f) (o ++ x)) (sym same) quiet;
         stand = subst (λ (x : List Entry). StandAfter told faults f o x nodes sources) (sym same) stand;
+        made = reads_none reads faults f.plan (samples_in sources);
         done_are = refl;
         refused_are = refl;
       }
 
   -- and a call more
-  pub more_made : (reads : S → ℕ → Option (List ℕ) → S → Type 0) (calls : List Call) (done refused : ℕ) (nodes now : List NodeView) (sources next : List (SourceView S)) (samples : List S)
-      (c : Call) (reply : Reply) (bytes : List ℕ) (m : AreMade told faults f o h calls done refused nodes sources)
-      → GoesOn told faults reads f o (h ++ m.entries) samples c [] reply bytes now next
-      → AreMade told faults f o h (calls ++ c ∷ []) (done + (if reply.code == 0 then 1 else 0)) (refused + (if reply.code == 0 then 0 else 1)) now next
-  more_made reads calls done refused nodes now sources next samples c reply bytes m g =
+  pub more_made : (samples : List S) → length samples ≡ length f.plan.sources → (calls : List Call) (done refused : ℕ) (nodes now : List NodeView) (sources next : List (SourceView S))
+      (c : Call) (reply : Reply) (bytes : List ℕ) (m : AreMade told faults reads f o h samples calls done refused nodes sources)
+      → GoesOn told faults reads f o (h ++ m.entries) (samples_in sources) c [] reply bytes now next
+      → AreMade told faults reads f o h samples (calls ++ c ∷ []) (done + (if reply.code == 0 then 1 else 0)) (refused + (if reply.code == 0 then 0 else 1)) now next
+  more_made samples many calls done refused nodes now sources next c reply bytes m g =
       let e = g.entry in
       let es = m.entries in
       let same : (h ++ es) ++ e ∷ [] ≡ h ++ (es ++ e ∷ []) = append_assoc h es (e ∷ []) in
@@ -87,6 +90,8 @@ module _ {S : Type 0} (told : S → Option (List ℕ)) (faults : S → ℕ) (f :
         apart = subst (λ (x : List Entry). Apart f.plan (o ++ x)) same g.apart;
         quiet = subst (λ (x : List Entry). Quiet f.plan (opened f) (o ++ x)) same g.quiet;
         stand = subst (λ (x : List Entry). StandAfter told faults f o x now next) same g.stand;
+        made = subst (λ (x : List Act). AreReads reads faults f.plan samples (samples_in next) x) (sym (acts_more es e))
+            (reads_on reads faults f.plan samples (samples_in sources) (samples_in next) (acts_of es) e.acts (samples_count sources ∙ (m.stand.source_count ∙ sym many)) m.made g.made);
         done_are = let a = m.done_are in let b = count_push is_done es e in let d = counts_done (e.reply.code == 0) in
             let k = ap {B = ℕ} (λ (z : ℕ). if z == 0 then 1 else 0) code in omega (arith, a, b, d, k);
         refused_are = let a = m.refused_are in let b = count_push is_refused es e in let d = counts_refused (e.reply.code == 0) in
@@ -101,16 +106,16 @@ module _ {S : Type 0} (told : S → Option (List ℕ)) (faults : S → ℕ) (f :
         counts_refused false = refl
 
   -- one more that was Done, and one more that was refused
-  module _ (reads : S → ℕ → Option (List ℕ) → S → Type 0) (nodes seed i done refused : ℕ) (old now : List NodeView) (sources next : List (SourceView S)) (samples : List S)
-      (c : Call) (reply : Reply) (bytes : List ℕ) (m : AreMade told faults f o h (stated_calls nodes seed i) done refused old sources)
-      (goes : GoesOn told faults reads f o (h ++ m.entries) samples c [] reply bytes now next) (is : c ≡ stated_call nodes (number seed i)) where
-    all : AreMade told faults f o h (stated_calls nodes seed (i + 1)) (done + (if reply.code == 0 then 1 else 0)) (refused + (if reply.code == 0 then 0 else 1)) now next
-    all = subst (λ (x : List Call). AreMade told faults f o h x (done + (if reply.code == 0 then 1 else 0)) (refused + (if reply.code == 0 then 0 else 1)) now next)
+  module _ (samples : List S) (many : length samples ≡ length f.plan.sources) (nodes seed i done refused : ℕ) (old now : List NodeView) (sources next : List (SourceView S))
+      (c : Call) (reply : Reply) (bytes : List ℕ) (m : AreMade told faults reads f o h samples (stated_calls nodes seed i) done refused old sources)
+      (goes : GoesOn told faults reads f o (h ++ m.entries) (samples_in sources) c [] reply bytes now next) (is : c ≡ stated_call nodes (number seed i)) where
+    all : AreMade told faults reads f o h samples (stated_calls nodes seed (i + 1)) (done + (if reply.code == 0 then 1 else 0)) (refused + (if reply.code == 0 then 0 else 1)) now next
+    all = subst (λ (x : List Call). AreMade told faults reads f o h samples x (done + (if reply.code == 0 then 1 else 0)) (refused + (if reply.code == 0 then 0 else 1)) now next)
         (ap (λ (x : Call). stated_calls nodes seed i ++ x ∷ []) is ∙ sym (one_more nodes seed i))
-        (more_made reads (stated_calls nodes seed i) done refused old now sources next samples c reply bytes m goes)
+        (more_made samples many (stated_calls nodes seed i) done refused old now sources next c reply bytes m goes)
 
     abbrev Then : ℕ → ℕ → Type 0
-    Then d r = AreMade told faults f o h (stated_calls nodes seed (i + 1)) d r now next
+    Then d r = AreMade told faults reads f o h samples (stated_calls nodes seed (i + 1)) d r now next
 
     pub more_done : (d r : ℕ) → d ≡ done + 1 → r ≡ refused → reply.code ≡ 0 → Then d r
     more_done d r d_is r_is code =

@@ -2,6 +2,7 @@
 ghost use Rattle.std.specs.Prelude.{◌≡◌, ◌≤◌, ◌+◌, ◌^◌, ℕ, List, length};
 ghost use Rattle.tree_rules.specs.History.{Entry, Opening};
 ghost use Rattle.tree_rules.specs.Openings.{IsHistory};
+ghost use Rattle.tree_core.specs.Made.{samples_in};
 ghost use Rattle.tree_core.specs.Solo.{StandAfter};
 ghost use Rattle.tree_load.specs.Load.{stated_calls};
 ghost use Rattle.tree_load.specs.Made.{AreMade};
@@ -29,7 +30,7 @@ pub fn make_stated_calls<S: Samples>(
     requires room { 65536 ≤ length buffer.old }
     requires few { tree.old.calls + count ≤ 2 ^ 40 }
     ensures made { (f : Opening) (o h : List Entry) → IsHistory f o h → f.plan ≡ tree.old.plan → StandAfter S.told S.faults f o h tree.old.nodes tree.old.sources →
-        AreMade S.told S.faults f o h (stated_calls (length tree.old.plan.nodes) seed count) result.done result.refused tree.new.nodes tree.new.sources }
+        AreMade S.told S.faults S.reads f o h (samples_in tree.old.sources) (stated_calls (length tree.old.plan.nodes) seed count) result.done result.refused tree.new.nodes tree.new.sources }
     ensures all { result.done + result.refused ≡ count }
     ensures plan { tree.new.plan ≡ tree.old.plan }
     ensures calls { tree.new.calls ≡ tree.old.calls + count }

@@ -3,6 +3,8 @@ use Rattle.std.specs.Prelude.{Option, string_bytes}
 use Rattle.tree_config.specs.Tree.{Tree}
 use Rattle.rbgtree.specs.Check.{HasChecked}
 use Rattle.rbgtree.specs.Commands.{IsCommand}
+use Rattle.rbgtree.specs.Files.{Entries}
+use Rattle.rbgtree.specs.Load.{LoadedPlan}
 use Rattle.rbgtree.specs.Recordings.{Recordings}
 use Rattle.rbgtree.specs.Run.{Outside, HasStatusCause, RanPlan, outside_of}
 use Rattle.rbgtree.specs.Seeds.{planned_file}
@@ -59,3 +61,32 @@ returns-in-Err-read_plan-clause-complete g c =
     let command = subst (λ (k : Command). IsCommand (map string_bytes c.args.words.now) k) c.in-Some-Check.field-0-is c.in-Some-Check.ensures.some in
     complete g.W.Samples.Samples.told g.W.Samples.Samples.faults g.W.Samples.Samples.reads _ _ _ _ (inr (inr (inl (c.in-Some-Check.name.now, command, (refl, inl (c.in-Err-read_plan.ensures.ended, c.in-Err-read_plan.ensures.recordings, refl))))))
     (cause_planless Tree (g.W.World.files c.args.world.now) c.in-Some-Check.name.now _ _ _ c.in-Err-read_plan.ensures.ended c.in-Err-read_plan.ensures.cause refl refl)
+
+-- what `load` did with the plan that it read
+pub returns-in-Ok-read_plan-2-clause-ran : goal.returns-in-Ok-read_plan-2-clause-ran
+returns-in-Ok-read_plan-2-clause-ran g c =
+    let told = g.W.Samples.Samples.told in
+    let faults = g.W.Samples.Samples.faults in
+    let reads = g.W.Samples.Samples.reads in
+    let now = g.W.World.recordings c.run_load.new.world in
+    let out = g.O.ByteSink.out c.args.output.now in
+    let out_now = g.O.ByteSink.out c.run_load.new.output in
+    let load = c.in-Some-Load.load in
+    let plan = c.in-Ok-read_plan-2.plan in
+    let files = subst (λ (files : Option Entries). LoadedPlan told faults reads files plan load (g.W.World.recordings c.read_plan-in-Some-Load.new.world) now out out_now c.run_load.result)
+    c.in-Ok-read_plan-2.ensures.files c.run_load.ensures.loaded in
+    let did = subst (λ (recordings : Option Recordings). LoadedPlan told faults reads (g.W.World.files c.args.world.now) plan load recordings now out out_now c.run_load.result)
+    c.in-Ok-read_plan-2.ensures.recordings files in
+    let command = subst (λ (k : Command). IsCommand (map string_bytes c.args.words.now) k) c.in-Some-Load.field-0-is c.in-Some-Load.ensures.some in
+    inr (inr (inr (inl (c.in-Some-Load.name.now, load, command, (refl, inr (plan, c.in-Ok-read_plan-2.ensures.plan, did))))))
+
+pub returns-in-Ok-read_plan-2-clause-complete : goal.returns-in-Ok-read_plan-2-clause-complete
+returns-in-Ok-read_plan-2-clause-complete g c =
+    complete g.W.Samples.Samples.told g.W.Samples.Samples.faults g.W.Samples.Samples.reads _ _ _ _ (returns-in-Ok-read_plan-2-clause-ran g c) (search rules)
+
+pub returns-in-Err-read_plan-2-clause-complete : goal.returns-in-Err-read_plan-2-clause-complete
+returns-in-Err-read_plan-2-clause-complete g c =
+    let command = subst (λ (k : Command). IsCommand (map string_bytes c.args.words.now) k) c.in-Some-Load.field-0-is c.in-Some-Load.ensures.some in
+    complete g.W.Samples.Samples.told g.W.Samples.Samples.faults g.W.Samples.Samples.reads _ _ _ _
+    (inr (inr (inr (inl (c.in-Some-Load.name.now, c.in-Some-Load.load, command, (refl, inl (c.in-Err-read_plan-2.ensures.ended, c.in-Err-read_plan-2.ensures.recordings, refl)))))))
+    (cause_planless Tree (g.W.World.files c.args.world.now) c.in-Some-Load.name.now _ _ _ c.in-Err-read_plan-2.ensures.ended c.in-Err-read_plan-2.ensures.cause refl refl)
