@@ -12,7 +12,7 @@ struct mechanism {
     const char *name, *drbg, *parameter, *value;
 };
 
-static EVP_RAND_CTX *new_rand(const char *name, EVP_RAND_CTX *parent)
+static inline EVP_RAND_CTX *new_rand(const char *name, EVP_RAND_CTX *parent)
 {
     EVP_RAND *kind = EVP_RAND_fetch(NULL, name, NULL);
     EVP_RAND_CTX *rand = kind ? EVP_RAND_CTX_new(kind, parent) : NULL;
@@ -23,7 +23,7 @@ static EVP_RAND_CTX *new_rand(const char *name, EVP_RAND_CTX *parent)
 }
 
 /* A DRBG that never reseeds by itself, over a parent that hands out the entropy and the nonce given here. */
-static EVP_RAND_CTX *instantiate(const struct mechanism *m, unsigned char *entropy, size_t entropy_len,
+static inline EVP_RAND_CTX *instantiate(const struct mechanism *m, unsigned char *entropy, size_t entropy_len,
                                  unsigned char *nonce, size_t nonce_len)
 {
     unsigned int strength = 256, never = 0;

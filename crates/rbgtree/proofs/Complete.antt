@@ -25,20 +25,21 @@ use Rattle.session_core.specs.declared.end.End.{End}
 use Rattle.session_core.specs.declared.end.End.TheVariants as ends
 use Rattle.rbgtree.specs.declared.load.Load.{Load}
 use Rattle.rbgtree.specs.declared.status.Status.{Status}
-use Rattle.rbgtree.specs.declared.status.Status.TheVariants.{Done, Usage, Config, Malformed, Cut, ReadFault, WriteFault, OpenFault, Memory, Quota, SeedShort, SourceRefused}
+use Rattle.rbgtree.specs.declared.status.Status.TheVariants.{Done, Usage, Config, Malformed, Cut, Text, ReadFault, WriteFault, OpenFault, Memory, Differs, Quota, SeedShort, SourceRefused}
 use Rattle.session_core.specs.Answers.{Answered, AreRight}
 use Rattle.session_core.specs.Session.{IsHeld}
 use Rattle.session_core.proofs.Weaker.{held-weaker}
-use Rattle.rbgtree.specs.Files.{Entries, IsWholeFile}
+use Rattle.rbgtree.specs.Files.{Entries}
 use Rattle.rbgtree.specs.Check.{HasNoPlan, HasChecked}
-use Rattle.rbgtree.specs.Commands.{IsSeedCommand, IsAnswerCommand, IsCheckCommand, IsLoadCommand}
+use Rattle.vector_text.specs.declared.case.Family.{Family}
+use Rattle.rbgtree.specs.Commands.{IsSeedCommand, IsAnswerCommand, IsCheckCommand, IsLoadCommand, IsReplayCommand, family_word}
 use Rattle.rbgtree.specs.Statuses.{status_of}
 use Rattle.rbgtree.specs.Trees.{EndedFrom, EndedOver, HasNoSeeds, IsShort}
 use Rattle.rbgtree.specs.Load.{HasLoaded, LoadedPlan}
 use Rattle.rbgtree.specs.Run.{AreServed, HasServed, IsUntouched, Outside, Served, RanPlan, RanSeed, RanAnswer, RanCheck, RanLoad, Ran, HasStatusCause}
 use Rattle.rbgtree.specs.Seeds.{AreSeeds, IsFront, IsSeedOf, file_in, planned_file}
 use Rattle.rbgtree.specs.Complete.{NoneRose, IsToldFile, HasLongFile, HaveLongFiles, CanBeServed, SeedCanBeServed, AnswerCanBeServed, CanBePassed, LoadCanBeMade, IsComplete}
-use Rattle.rbgtree.proofs.FileFronts.{is_file-unique}
+use Rattle.rbgtree.proofs.Replayed.{one_file, replay_done, replay_same}
 
 -- bytes that were taken stand in front of the others
 taken_front : (before now : Option (List ℕ)) (taken script : List ℕ) → before ≡ Some script → Consumes before now taken
@@ -78,11 +79,6 @@ read_whole f o max (ends.Quota frames) before now script asked is whole few calm
       ap (λ (x : List Asked). length x) longer,
       length-append rs others,
     ))
-
--- the bytes of a file that is told
-one_file : (files : Option Entries) (name a b : List ℕ) → IsToldFile files name a → IsWholeFile files name b → a ≡ b
-one_file None name a b told whole = absurd told
-one_file (Some entries) name a b told whole = is_file-unique entries name a b told whole
 
 -- how a session that was held ended
 served_done : {S : Type 0} (told : S → Option (List ℕ)) (faults : S → ℕ) (reads : S → ℕ → Option (List ℕ) → S → Type 0) (file : NodePlan → Option (List ℕ)) (p : Tree) (seeds : List (List ℕ)) (before now : Outside) (status : Status) → (end : End) × (status ≡ status_of end) × Served told faults reads p seeds before now end
@@ -159,6 +155,8 @@ without_seeds before now calm (Malformed offset why) none cause = absurd none
 without_seeds before now calm (Cut offset) none cause = absurd none
 without_seeds before now calm (ReadFault count) none cause = absurd none
 without_seeds before now calm (WriteFault count) none cause = absurd none
+without_seeds before now calm (Text line why) none cause = absurd none
+without_seeds before now calm (Differs differed) none cause = absurd none
 without_seeds before now calm (Quota frames) none cause = absurd none
 without_seeds before now calm (SourceRefused source) none cause = absurd none
 
@@ -176,6 +174,8 @@ module _ {S : Type 0} (told : S → Option (List ℕ)) (faults : S → ℕ) (fil
   over_done Did did seeds (Cut offset) are ran cause = did (Cut offset) ran cause
   over_done Did did seeds (ReadFault count) are ran cause = did (ReadFault count) ran cause
   over_done Did did seeds (WriteFault count) are ran cause = did (WriteFault count) ran cause
+  over_done Did did seeds (Text line why) are ran cause = did (Text line why) ran cause
+  over_done Did did seeds (Differs differed) are ran cause = did (Differs differed) ran cause
   over_done Did did seeds (Quota frames) are ran cause = did (Quota frames) ran cause
   over_done Did did seeds (SourceRefused source) are ran cause = did (SourceRefused source) ran cause
 
@@ -203,6 +203,8 @@ module _ {S : Type 0} (told : S → Option (List ℕ)) (faults : S → ℕ) (rea
   loaded_done load seeds (Malformed offset why) did cause = absurd did
   loaded_done load seeds (Cut offset) did cause = absurd did
   loaded_done load seeds (ReadFault count) did cause = absurd did
+  loaded_done load seeds (Text line why) did cause = absurd did
+  loaded_done load seeds (Differs differed) did cause = absurd did
   loaded_done load seeds (Quota frames) did cause = absurd did
   loaded_done load seeds (SourceRefused source) did cause = absurd did
 
@@ -219,6 +221,8 @@ no_fault files name text tree before now Done told plan none cause calm = absurd
 no_fault files name text tree before now Usage told plan none cause calm = absurd none
 no_fault files name text tree before now (Malformed offset why) told plan none cause calm = absurd none
 no_fault files name text tree before now (Cut offset) told plan none cause calm = absurd none
+no_fault files name text tree before now (Text line why) told plan none cause calm = absurd none
+no_fault files name text tree before now (Differs differed) told plan none cause calm = absurd none
 no_fault files name text tree before now (ReadFault count) told plan none cause calm = absurd none
 no_fault files name text tree before now (WriteFault count) told plan none cause calm = absurd none
 no_fault files name text tree before now (Quota frames) told plan none cause calm = absurd none
@@ -240,6 +244,8 @@ none_refused told faults reads words before now Usage can did cause calm = absur
 none_refused told faults reads words before now (Config fault) can did cause calm = absurd did
 none_refused told faults reads words before now (Malformed offset why) can did cause calm = absurd did
 none_refused told faults reads words before now (Cut offset) can did cause calm = absurd did
+none_refused told faults reads words before now (Text line why) can did cause calm = absurd did
+none_refused told faults reads words before now (Differs differed) can did cause calm = absurd did
 none_refused told faults reads words before now (ReadFault count) can did cause calm = absurd did
 none_refused told faults reads words before now (Quota frames) can did cause calm = absurd did
 none_refused told faults reads words before now (SeedShort node have need) can did cause calm = absurd did
@@ -304,6 +310,15 @@ answer_check words a b one other = let e : codes "answer" ∷ a ∷ [] ≡ codes
 one_of_two : (words : List (List ℕ)) (a b name : List ℕ) (load : Load) → words ≡ a ∷ b ∷ [] → IsLoadCommand words name load → ⊥
 one_of_two words a b name load two command = let four = command.words_are in let e : a ∷ b ∷ [] ≡ codes "load" ∷ name ∷ decimal load.count ∷ decimal load.seed ∷ [] = sym two ∙ four in absurd cc
 
+-- two words are not three
+not_replay : (words : List (List ℕ)) (command a : List ℕ) (family : Family) (b : List ℕ) → words ≡ command ∷ a ∷ [] → IsReplayCommand words family b → ⊥
+not_replay words command a family b one other = let e : command ∷ a ∷ [] ≡ codes "replay" ∷ family_word family ∷ b ∷ [] = sym one ∙ other in absurd cc
+
+load_replay : (words : List (List ℕ)) (a : List ℕ) (load : Load) (family : Family) (b : List ℕ) → IsLoadCommand words a load → IsReplayCommand words family b → ⊥
+load_replay words a load family b one other =
+    let four = one.words_are in
+    let e : codes "load" ∷ a ∷ decimal load.count ∷ decimal load.seed ∷ [] ≡ codes "replay" ∷ family_word family ∷ b ∷ [] = sym four ∙ other in absurd cc
+
 called_same : (words : List (List ℕ)) (a b : List ℕ) → IsCheckCommand words a → IsCheckCommand words b → a ≡ b
 called_same words a b one other = let e : codes "check" ∷ a ∷ [] ≡ codes "check" ∷ b ∷ [] = sym one ∙ other in cc
 
@@ -312,21 +327,32 @@ pub complete : {S : Type 0} (told : S → Option (List ℕ)) (faults : S → ℕ
 complete told faults reads words before now status (inl (name, seed, ran)) cause calm (inl can) = seed_done told faults reads words before now status cause calm name seed ran can
 complete told faults reads words before now status (inl (name, seed, ran)) cause calm (inr (inl can)) = absurd (seed_answer words name can.name seed can.command)
 complete told faults reads words before now status (inl (name, seed, ran)) cause calm (inr (inr (inl can))) = absurd (seed_check words name can.name seed can.command)
-complete told faults reads words before now status (inl (name, seed, ran)) cause calm (inr (inr (inr can))) = absurd (one_of_two words (codes "seed") name can.name can.load seed can.command)
+complete told faults reads words before now status (inl (name, seed, ran)) cause calm (inr (inr (inr (inl can)))) = absurd (one_of_two words (codes "seed") name can.name can.load seed can.command)
+complete told faults reads words before now status (inl (name, seed, ran)) cause calm (inr (inr (inr (inr can)))) = absurd (not_replay words (codes "seed") name can.family can.name seed can.command)
 complete told faults reads words before now status (inr (inl (name, answer, ran))) cause calm (inl can) = absurd (seed_answer words can.name name can.command answer)
 complete told faults reads words before now status (inr (inl (name, answer, ran))) cause calm (inr (inl can)) = answer_done told faults reads words before now status cause calm name answer ran can
 complete told faults reads words before now status (inr (inl (name, answer, ran))) cause calm (inr (inr (inl can))) = absurd (answer_check words name can.name answer can.command)
-complete told faults reads words before now status (inr (inl (name, answer, ran))) cause calm (inr (inr (inr can))) = absurd (one_of_two words (codes "answer") name can.name can.load answer can.command)
+complete told faults reads words before now status (inr (inl (name, answer, ran))) cause calm (inr (inr (inr (inl can)))) = absurd (one_of_two words (codes "answer") name can.name can.load answer can.command)
+complete told faults reads words before now status (inr (inl (name, answer, ran))) cause calm (inr (inr (inr (inr can)))) = absurd (not_replay words (codes "answer") name can.family can.name answer can.command)
 complete told faults reads words before now status (inr (inr (inl (name, check, ran)))) cause calm (inl can) = absurd (seed_check words can.name name can.command check)
 complete told faults reads words before now status (inr (inr (inl (name, check, ran)))) cause calm (inr (inl can)) = absurd (answer_check words can.name name can.command check)
 complete told faults reads words before now status (inr (inr (inl (name, check, ran)))) cause calm (inr (inr (inl can))) =
     check_done told faults reads words before now status can (subst (λ (n : List ℕ). RanCheck told faults reads n before now status) (called_same words name can.name check can.command) ran) cause calm
-complete told faults reads words before now status (inr (inr (inl (name, check, ran)))) cause calm (inr (inr (inr can))) = absurd (one_of_two words (codes "check") name can.name can.load check can.command)
+complete told faults reads words before now status (inr (inr (inl (name, check, ran)))) cause calm (inr (inr (inr (inl can)))) = absurd (one_of_two words (codes "check") name can.name can.load check can.command)
+complete told faults reads words before now status (inr (inr (inl (name, check, ran)))) cause calm (inr (inr (inr (inr can)))) = absurd (not_replay words (codes "check") name can.family can.name check can.command)
 complete told faults reads words before now status (inr (inr (inr (inl (name, load, command, ran))))) cause calm (inl can) = absurd (one_of_two words (codes "seed") can.name name load can.command command)
 complete told faults reads words before now status (inr (inr (inr (inl (name, load, command, ran))))) cause calm (inr (inl can)) = absurd (one_of_two words (codes "answer") can.name name load can.command command)
 complete told faults reads words before now status (inr (inr (inr (inl (name, load, command, ran))))) cause calm (inr (inr (inl can))) = absurd (one_of_two words (codes "check") can.name name load can.command command)
-complete told faults reads words before now status (inr (inr (inr (inl (name, load, command, ran))))) cause calm (inr (inr (inr can))) = load_done told faults reads words before now status cause calm name load command ran can
-complete told faults reads words before now status (inr (inr (inr (inr (none, usage, same, still))))) cause calm (inl can) = absurd (none.seed can.name can.command)
-complete told faults reads words before now status (inr (inr (inr (inr (none, usage, same, still))))) cause calm (inr (inl can)) = absurd (none.answer can.name can.command)
-complete told faults reads words before now status (inr (inr (inr (inr (none, usage, same, still))))) cause calm (inr (inr (inl can))) = absurd (none.check can.name can.command)
-complete told faults reads words before now status (inr (inr (inr (inr (none, usage, same, still))))) cause calm (inr (inr (inr can))) = absurd (none.load can.name can.load can.command)
+complete told faults reads words before now status (inr (inr (inr (inl (name, load, command, ran))))) cause calm (inr (inr (inr (inl can)))) = load_done told faults reads words before now status cause calm name load command ran can
+complete told faults reads words before now status (inr (inr (inr (inl (name, load, command, ran))))) cause calm (inr (inr (inr (inr can)))) = absurd (load_replay words name load can.family can.name command can.command)
+complete told faults reads words before now status (inr (inr (inr (inr (inl (family, name, replay, ran)))))) cause calm (inl can) = absurd (not_replay words (codes "seed") can.name family name can.command replay)
+complete told faults reads words before now status (inr (inr (inr (inr (inl (family, name, replay, ran)))))) cause calm (inr (inl can)) = absurd (not_replay words (codes "answer") can.name family name can.command replay)
+complete told faults reads words before now status (inr (inr (inr (inr (inl (family, name, replay, ran)))))) cause calm (inr (inr (inl can))) = absurd (not_replay words (codes "check") can.name family name can.command replay)
+complete told faults reads words before now status (inr (inr (inr (inr (inl (family, name, replay, ran)))))) cause calm (inr (inr (inr (inl can)))) = absurd (load_replay words can.name can.load family name can.command replay)
+complete told faults reads words before now status (inr (inr (inr (inr (inl (family, name, replay, ran)))))) cause calm (inr (inr (inr (inr can)))) =
+    replay_done words before now status can (replay_same words family name can.family can.name before now status replay can.command ran) cause calm
+complete told faults reads words before now status (inr (inr (inr (inr (inr (none, usage, same, still)))))) cause calm (inl can) = absurd (none.seed can.name can.command)
+complete told faults reads words before now status (inr (inr (inr (inr (inr (none, usage, same, still)))))) cause calm (inr (inl can)) = absurd (none.answer can.name can.command)
+complete told faults reads words before now status (inr (inr (inr (inr (inr (none, usage, same, still)))))) cause calm (inr (inr (inl can))) = absurd (none.check can.name can.command)
+complete told faults reads words before now status (inr (inr (inr (inr (inr (none, usage, same, still)))))) cause calm (inr (inr (inr (inl can)))) = absurd (none.load can.name can.load can.command)
+complete told faults reads words before now status (inr (inr (inr (inr (inr (none, usage, same, still)))))) cause calm (inr (inr (inr (inr can)))) = absurd (none.replay can.family can.name can.command)

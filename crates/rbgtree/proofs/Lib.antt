@@ -7,6 +7,8 @@ pub mod Tries
 pub mod Depths
 pub mod Openings
 pub mod Plans
+pub mod Texts
+pub mod Replayed
 pub mod Complete
 pub mod Counting
 pub mod Loading

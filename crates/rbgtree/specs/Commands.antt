@@ -1,6 +1,8 @@
 -- The words of each command.
 -- This project's own.
 use Rattle.std.specs.Prelude.{◌≡◌, ◌≤◌, ◌<◌, ◌^◌, ℕ, List, [], ◌∷◌, codes, decimal}
+use Rattle.vector_text.specs.declared.case.Family.{Family}
+use Rattle.vector_text.specs.declared.case.Family.TheVariants.{Hmac, Ctr}
 use Rattle.rbgtree.specs.declared.load.Load.{Load}
 use Rattle.rbgtree.specs.declared.top.Command.{Command}
 use Rattle.rbgtree.specs.declared.top.Command.TheVariants as commands
@@ -24,12 +26,22 @@ pub record IsLoadCommand (words : List (List ℕ)) (name : List ℕ) (load : Loa
   pub count : load.count ≤ 10000000
   pub seed : load.seed < 2 ^ 64
 
+-- the word for a family
+abbrev pub family_word : Family → List ℕ
+family_word Hmac = codes "hmac"
+family_word Ctr = codes "ctr"
+
+-- `replay`, a family and the name of a file
+abbrev pub IsReplayCommand : List (List ℕ) → Family → List ℕ → Type 0
+IsReplayCommand words family name = words ≡ codes "replay" ∷ family_word family ∷ name ∷ []
+
 -- the words are this command
 abbrev pub IsCommand : List (List ℕ) → Command → Type 0
 IsCommand words (commands.Seed name) = IsSeedCommand words name.now
 IsCommand words (commands.Answer name) = IsAnswerCommand words name.now
 IsCommand words (commands.Check name) = IsCheckCommand words name.now
 IsCommand words (commands.Load name load) = IsLoadCommand words name.now load
+IsCommand words (commands.Replay family name) = IsReplayCommand words family name.now
 
 -- the words are no command
 pub record IsNoCommand (words : List (List ℕ)) : Type 0 where
@@ -37,3 +49,4 @@ pub record IsNoCommand (words : List (List ℕ)) : Type 0 where
   pub answer : (name : List ℕ) → IsAnswerCommand words name → ⊥
   pub check : (name : List ℕ) → IsCheckCommand words name → ⊥
   pub load : (name : List ℕ) (load : Load) → IsLoadCommand words name load → ⊥
+  pub replay : (family : Family) (name : List ℕ) → IsReplayCommand words family name → ⊥

@@ -1,6 +1,6 @@
 -- When the program ends with its work done: where the words, the files and the input are in order, and nothing fails.
 -- This project's own.
-use Rattle.std.specs.Prelude.{◌≡◌, ◌≤◌, ◌<◌, ◌⊎◌, ℕ, List, [], length, slice_get, Option, Some, None, Ok}
+use Rattle.std.specs.Prelude.{◌≡◌, ◌≤◌, ◌<◌, ◌⊎◌, ℕ, List, [], length, take, slice_get, Option, Some, None, Ok}
 use Rattle.rbg_bytes.specs.Streams.{Rose}
 use Rattle.frame_codec.specs.Frames.{Asked, IsScript}
 use Rattle.rbg_nodes.specs.Node.{New, seed_len}
@@ -9,7 +9,12 @@ use Rattle.tree_config.specs.Tree.{Tree, Plan, stock_tree}
 use Rattle.tree_config.specs.declared.plan.NodePlan.{NodePlan}
 use Rattle.rbgtree.specs.Files.{Entries, IsFile}
 use Rattle.rbgtree.specs.Check.{HasTried, first_refused}
-use Rattle.rbgtree.specs.Commands.{IsSeedCommand, IsAnswerCommand, IsCheckCommand, IsLoadCommand}
+use Rattle.vector_text.specs.declared.case.Family.{Family}
+use Rattle.vector_text.specs.Feeding.{most_bytes}
+use Rattle.vector_replay.specs.declared.totals.Totals.{Totals}
+use Rattle.vector_replay.specs.Report.{Counted}
+use Rattle.vector_replay.specs.Replaying.{replayed}
+use Rattle.rbgtree.specs.Commands.{IsSeedCommand, IsAnswerCommand, IsCheckCommand, IsLoadCommand, IsReplayCommand}
 use Rattle.rbgtree.specs.Seeds.{planned_file}
 use Rattle.rbgtree.specs.Run.{Outside}
 use Rattle.rbgtree.specs.declared.load.Load.{Load}
@@ -83,7 +88,18 @@ pub record CanBePassed {S : Type 0} (told : S → Option (List ℕ)) (faults : S
   pub plan : Plan text (Ok tree)
   pub passes : (lines : List SourceLine) → HasTried told faults reads tree before.recordings now.recordings lines → first_refused lines ≡ None
 
+-- `replay`, with a text that has no fault, bad lengths included, and of which no case differs
+pub record ReplayCanPass (words : List (List ℕ)) (before : Outside) : Type 0 where
+  pub family : Family
+  pub name : List ℕ
+  pub command : IsReplayCommand words family name
+  pub text : List ℕ
+  pub file : IsToldFile before.files name text
+  pub totals : Totals
+  pub passes : (replayed family (take most_bytes text)).end ≡ Counted totals
+  pub none : totals.differed ≡ 0
+
 -- the work is then done, unless memory is lacking
 abbrev pub IsComplete : {S : Type 0} → (S → Option (List ℕ)) → (S → ℕ) → (S → ℕ → Option (List ℕ) → S → Type 0) → List (List ℕ) → Outside → Outside → Status → Type 0
 IsComplete told faults reads words before now status =
-    NoneRose before now → SeedCanBeServed words before ⊎ AnswerCanBeServed words before ⊎ CanBePassed told faults reads words before now ⊎ LoadCanBeMade words before → (status ≡ Done) ⊎ (status ≡ Memory)
+    NoneRose before now → SeedCanBeServed words before ⊎ AnswerCanBeServed words before ⊎ CanBePassed told faults reads words before now ⊎ LoadCanBeMade words before ⊎ ReplayCanPass words before → (status ≡ Done) ⊎ (status ≡ Memory)

@@ -9,5 +9,6 @@ pub mod Seeds
 pub mod Trees
 pub mod Counts
 pub mod Load
+pub mod Replay
 pub mod Run
 pub mod Complete

@@ -12,8 +12,10 @@ use Rattle.session_core.specs.declared.end.End.{End}
 use Rattle.rbgtree.specs.Files.{Entries}
 use Rattle.rbgtree.specs.Recordings.{Recordings}
 use Rattle.rbgtree.specs.Check.{IsPlanOf, HasNoPlan, HasChecked}
-use Rattle.rbgtree.specs.Commands.{IsSeedCommand, IsAnswerCommand, IsCheckCommand, IsLoadCommand, IsNoCommand}
+use Rattle.rbgtree.specs.Commands.{IsSeedCommand, IsAnswerCommand, IsCheckCommand, IsLoadCommand, IsReplayCommand, IsNoCommand}
 use Rattle.rbgtree.specs.Seeds.{planned_file}
+use Rattle.rbgtree.specs.Replay.{Replays}
+use Rattle.vector_text.specs.declared.case.Family.{Family}
 use Rattle.rbgtree.specs.Statuses.{status_of}
 use Rattle.rbgtree.specs.Trees.{AreAllReads, EndedFrom, EndedOver, IsOpened}
 use Rattle.rbgtree.specs.Load.{LoadedPlan}
@@ -104,6 +106,11 @@ RanLoad told faults reads name load before now status =
     × ((HasNoPlan before.files name status × (now.recordings ≡ before.recordings) × (now.out ≡ before.out))
     ⊎ ((tree : Tree) × IsPlanOf before.files name tree × LoadedPlan told faults reads before.files tree load before.recordings now.recordings before.out now.out status))
 
+-- what `replay` did, by the status; it reads nothing from the input, and opens no samples
+abbrev pub RanReplay : Family → List ℕ → Outside → Outside → Status → Type 0
+RanReplay family name before now status =
+    (now.left ≡ before.left) × (now.recordings ≡ before.recordings) × Replays before.files family name now.world before.out now.out status
+
 -- what was done, by the words and the status; files stay as they are. The first three arguments say what samples tell, how often
 -- they failed, and which reads lead from one value of them to another.
 abbrev pub Ran : {S : Type 0} → (S → Option (List ℕ)) → (S → ℕ) → (S → ℕ → Option (List ℕ) → S → Type 0) → List (List ℕ) → Outside → Outside → Status → Type 0
@@ -112,6 +119,7 @@ Ran told faults reads words before now status =
     ⊎ ((name : List ℕ) × IsAnswerCommand words name × RanAnswer told faults reads name before now status)
     ⊎ ((name : List ℕ) × IsCheckCommand words name × RanCheck told faults reads name before now status)
     ⊎ ((name : List ℕ) × (load : Load) × IsLoadCommand words name load × RanLoad told faults reads name load before now status)
+    ⊎ ((family : Family) × (name : List ℕ) × IsReplayCommand words family name × RanReplay family name before now status)
     ⊎ (IsNoCommand words × (status ≡ Usage) × (now.recordings ≡ before.recordings) × IsUntouched before now)
 
 -- no count of faults grew

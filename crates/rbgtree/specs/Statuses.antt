@@ -7,7 +7,7 @@ use Rattle.tree_config.specs.declared.fault.ConfigFault.TheVariants.{TooLarge, B
 use Rattle.session_core.specs.declared.end.End.{End}
 use Rattle.session_core.specs.declared.end.End.TheVariants as ends
 use Rattle.rbgtree.specs.declared.status.Status.{Status}
-use Rattle.rbgtree.specs.declared.status.Status.TheVariants.{Done, Usage, Config, Malformed, Cut, ReadFault, WriteFault, OpenFault, Memory, Quota, SeedShort, SourceRefused}
+use Rattle.rbgtree.specs.declared.status.Status.TheVariants.{Done, Usage, Config, Malformed, Cut, Text, ReadFault, WriteFault, OpenFault, Memory, Differs, Quota, SeedShort, SourceRefused}
 
 -- the status with which the process ends
 abbrev pub number_of : Status → ℕ
@@ -16,16 +16,21 @@ number_of Usage = 1
 number_of (Config fault) = 2
 number_of (Malformed offset why) = 3
 number_of (Cut offset) = 3
+number_of (Text line why) = 3
 number_of (ReadFault count) = 4
 number_of (WriteFault count) = 5
 number_of (OpenFault count) = 6
 number_of Memory = 7
+number_of (Differs differed) = 8
 number_of (Quota frames) = 9
 number_of (SeedShort node have need) = 10
 number_of (SourceRefused source) = 11
 
 abbrev pub malformed_line : ℕ → ℕ → List ℕ
 malformed_line offset why = codes "malformed frame at " ++ decimal offset ++ codes ", why " ++ decimal why ++ codes "\n"
+
+abbrev pub text_fault_line : ℕ → ℕ → List ℕ
+text_fault_line line why = codes "text fault at line " ++ decimal line ++ codes ", why " ++ decimal why ++ codes "\n"
 
 abbrev pub seed_short_line : ℕ → ℕ → ℕ → List ℕ
 seed_short_line node have need =
@@ -51,10 +56,12 @@ line_of Usage =
 line_of (Config fault) = codes "configuration: " ++ fault_text fault ++ codes "\n"
 line_of (Malformed offset why) = malformed_line offset why
 line_of (Cut offset) = codes "input cut at " ++ decimal offset ++ codes "\n"
+line_of (Text line why) = text_fault_line line why
 line_of (ReadFault count) = codes "read fault " ++ decimal count ++ codes "\n"
 line_of (WriteFault count) = codes "write fault " ++ decimal count ++ codes "\n"
 line_of (OpenFault count) = codes "open fault " ++ decimal count ++ codes "\n"
 line_of Memory = codes "out of memory\n"
+line_of (Differs differed) = codes "vectors differ: " ++ decimal differed ++ codes "\n"
 line_of (Quota frames) = codes "quota of " ++ decimal frames ++ codes " frames\n"
 line_of (SeedShort node have need) = seed_short_line node have need
 line_of (SourceRefused source) = codes "source " ++ decimal source ++ codes " refused\n"

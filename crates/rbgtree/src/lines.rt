@@ -1,7 +1,7 @@
 // The lines that say how the program ended, by their shapes.
 ghost use Rattle.std.specs.Prelude.{◌≡◌, ◌≤◌, ◌+◌, ◌++◌, length, codes, decimal};
 ghost use Rattle.tree_config.specs.Names.{place_text};
-ghost use Rattle.rbgtree.specs.Statuses.{malformed_line, seed_short_line, fault_text};
+ghost use Rattle.rbgtree.specs.Statuses.{malformed_line, seed_short_line, text_fault_line, fault_text};
 
 use rbg_bytes::Line;
 use tree_config::{ConfigFault, Field, Place};
@@ -36,6 +36,19 @@ pub fn malformed(offset: u64, why: u8) -> Line
     let mut line = Line::new();
     line.text("malformed frame at ");
     line.number(offset);
+    line.text(", why ");
+    line.number(u64::from(why));
+    line.text("\n");
+    line
+}
+
+/// Where a text that is replayed has a fault, and which.
+pub fn text_fault(fault: u64, why: u8) -> Line
+    ensures { result ≡ text_fault_line fault why }
+{
+    let mut line = Line::new();
+    line.text("text fault at line ");
+    line.number(fault);
     line.text(", why ");
     line.number(u64::from(why));
     line.text("\n");

@@ -5,6 +5,7 @@
 //! - `serve`: a tree over them, and one session of frames on it;
 //! - `load`: stated calls on such a tree, and `counts`, the lines that are printed of them;
 //! - `check`: one start of each source of a configuration, and `printed`, the lines that are printed of it;
+//! - `text` and `replaying`: a text that is read from a file, and what is printed of it;
 //! - `status` and `lines`: how the program ends, as a number and as a line;
 //! - `world`: what is asked of the outside beside input and output, `memory_world` and `host` what meets it.
 #![tactic(auto)]
@@ -17,9 +18,11 @@ mod lines;
 mod load;
 mod memory_world;
 mod printed;
+mod replaying;
 mod seeds;
 mod serve;
 mod status;
+mod text;
 mod top;
 mod world;
 
@@ -67,6 +70,8 @@ mod answer_tests;
 mod check_tests;
 #[cfg(test)]
 mod load_tests;
+#[cfg(test)]
+mod replay_tests;
 #[cfg(test)]
 mod tests;
 #[cfg(test)]

@@ -3,7 +3,7 @@ ghost use Rattle.std.specs.Prelude.{◌≡◌};
 ghost use Rattle.rbg_bytes.specs.Streams.{HasCause, TakesAll};
 ghost use Rattle.rbgtree.specs.Statuses.{number_of, line_of, status_of};
 
-use crate::lines::{config_fault, malformed, numbered, plain, seed_short};
+use crate::lines::{config_fault, malformed, numbered, plain, seed_short, text_fault};
 use rbg_bytes::{ByteSink, Failed, Line};
 use session_core::End;
 use tree_config::ConfigFault;
@@ -25,6 +25,8 @@ pub enum Status {
     Malformed { offset: u64, why: u8 },
     /// The input ended within a frame, after so many bytes.
     Cut { offset: u64 },
+    /// The text of a replay has a fault at this line, or a case there has bad lengths (7).
+    Text { line: u64, why: u8 },
     /// The input failed, so often by now.
     ReadFault { count: u64 },
     /// The output failed, so often by now.
@@ -33,6 +35,8 @@ pub enum Status {
     OpenFault { count: u64 },
     /// No memory was left.
     Memory,
+    /// So many cases of a text that was replayed differ.
+    Differs { differed: u64 },
     /// So many frames were answered, as many as one session may have.
     Quota { frames: u64 },
     /// The seed file of this node has fewer bytes than it needs.
@@ -50,11 +54,12 @@ impl Status {
             Status::Done => 0,
             Status::Usage => 1,
             Status::Config(_) => 2,
-            Status::Malformed { .. } | Status::Cut { .. } => 3,
+            Status::Malformed { .. } | Status::Cut { .. } | Status::Text { .. } => 3,
             Status::ReadFault { .. } => 4,
             Status::WriteFault { .. } => 5,
             Status::OpenFault { .. } => 6,
             Status::Memory => 7,
+            Status::Differs { .. } => 8,
             Status::Quota { .. } => 9,
             Status::SeedShort { .. } => 10,
             Status::SourceRefused { .. } => 11,
@@ -84,10 +89,12 @@ impl Status {
             Status::Config(fault) => config_fault(fault),
             Status::Malformed { offset, why } => malformed(offset, why),
             Status::Cut { offset } => numbered("input cut at ", offset, "\n"),
+            Status::Text { line, why } => text_fault(line, why),
             Status::ReadFault { count } => numbered("read fault ", count, "\n"),
             Status::WriteFault { count } => numbered("write fault ", count, "\n"),
             Status::OpenFault { count } => numbered("open fault ", count, "\n"),
             Status::Memory => plain("out of memory\n"),
+            Status::Differs { differed } => numbered("vectors differ: ", differed, "\n"),
             Status::Quota { frames } => numbered("quota of ", frames, " frames\n"),
             Status::SeedShort { node, have, need } => seed_short(node, have, need),
             Status::SourceRefused { source } => {

@@ -241,10 +241,16 @@ fn each_status_has_its_number_and_line(rt: HostRuntime) -> Result<(), Fail> {
             "malformed frame at 2, why 3\n",
         ),
         (Status::Cut { offset: 16 }, 3, "input cut at 16\n"),
+        (
+            Status::Text { line: 16, why: 3 },
+            3,
+            "text fault at line 16, why 3\n",
+        ),
         (Status::ReadFault { count: 1 }, 4, "read fault 1\n"),
         (Status::WriteFault { count: 2 }, 5, "write fault 2\n"),
         (Status::OpenFault { count: 3 }, 6, "open fault 3\n"),
         (Status::Memory, 7, "out of memory\n"),
+        (Status::Differs { differed: 7 }, 8, "vectors differ: 7\n"),
         (
             Status::Quota { frames: 1_048_576 },
             9,

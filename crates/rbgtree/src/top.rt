@@ -1,7 +1,8 @@
 // What each command does.
 ghost use Rattle.std.specs.Prelude.{◌≡◌, ◌∷◌, [], List, ℕ, map, codes, string_bytes, Some, IfSome, IfNone, IfOk};
 ghost use Rattle.tree_config.specs.Tree.{stock_tree};
-ghost use Rattle.rbgtree.specs.Commands.{IsCommand, IsNoCommand};
+ghost use Rattle.rbgtree.specs.Commands.{IsCommand, IsNoCommand, family_word};
+ghost use Rattle.vector_text.specs.declared.case.Family.{Family};
 ghost use Rattle.rbgtree.specs.Check.{HasChecked, HasCheckCause, HasOpenCause};
 ghost use Rattle.rbgtree.specs.Complete.{IsComplete};
 ghost use Rattle.rbgtree.specs.Run.{outside_of, Ran, RanSeed, RanPlan, HasStatusCause};
@@ -12,6 +13,7 @@ use crate::check::{
 };
 use crate::files::read_plan;
 use crate::load::{Load, load_of, run_load};
+use crate::replaying::run_replay;
 use crate::seeds::{read_seed, read_seeds};
 use crate::serve::serve;
 use crate::status::Status;
@@ -19,6 +21,7 @@ use crate::world::World;
 use rbg_bytes::{ByteSink, ByteSource};
 use std::alloc::Global;
 use tree_config::TreePlan;
+use vector_text::Family;
 
 /// A command, with the name of the file that it begins with.
 enum Command<'a> {
@@ -26,6 +29,7 @@ enum Command<'a> {
     Answer(&'a str),
     Check(&'a str),
     Load(&'a str, Load),
+    Replay(Family, &'a str),
 }
 
 // The command that two words are.
@@ -38,6 +42,32 @@ fn file_command<'a>(command: &str, name: &'a str) -> Option<Command<'a>>
         "answer" => Some(Command::Answer(name)),
         "check" => Some(Command::Check(name)),
         _ => None,
+    }
+}
+
+// The family that a word names.
+fn family_of(word: &str) -> Option<Family>
+    ensures some { IfSome result (λ family. word.now ≡ family_word family) }
+    ensures none { IfNone result ((family : Family) → word.now ≡ family_word family → ⊥) }
+{
+    match word {
+        "hmac" => Some(Family::Hmac),
+        "ctr" => Some(Family::Ctr),
+        _ => None,
+    }
+}
+
+// The replay that three words are.
+fn replay_of<'a>(command: &'a str, family: &'a str, name: &'a str) -> Option<Command<'a>>
+    ensures some { IfSome result (IsCommand (command.now ∷ family.now ∷ name.now ∷ [])) }
+    ensures none { IfNone result (IsNoCommand (command.now ∷ family.now ∷ name.now ∷ [])) }
+{
+    if command != "replay" {
+        return None;
+    }
+    match family_of(family) {
+        Some(family) => Some(Command::Replay(family, name)),
+        None => None,
     }
 }
 
@@ -62,6 +92,9 @@ fn command_of(words: &[String]) -> Option<Command<'_>>
 {
     match words {
         [command, name] => file_command(command.as_str(), name.as_str()),
+        [command, family, name] => {
+            replay_of(command.as_str(), family.as_str(), name.as_str())
+        }
         [command, name, count, seed] => load_command(
             command.as_str(),
             name.as_str(),
@@ -180,6 +213,8 @@ fn check<W: World, O: ByteSink>(
 /// - `load CONFIG N SEED`: N calls that SEED states, at most 10,000,000, are made one after another on a tree as that of `answer`, and a
 ///   line is printed of their number, of how many were Done and how many refused, and of the counts of each node and of each source.
 ///   Nothing is read from the input.
+/// - `replay hmac FILE`, `replay ctr FILE`: the text of FILE is read, for the mechanisms of HMAC_DRBG or of CTR_DRBG, and its cases are
+///   run; three lines are printed of each that differs, and then the totals. Nothing is read from the input.
 ///
 /// Where memory is lacking, nothing was read from the input, and nothing was written.
 pub fn run<W: World, I: ByteSource, O: ByteSink>(
@@ -211,6 +246,7 @@ pub fn run<W: World, I: ByteSource, O: ByteSink>(
             Ok(plan) => run_load(alloc, plan, load, world, output),
             Err(status) => status,
         },
+        Some(Command::Replay(family, name)) => run_replay(alloc, family, name, world, output),
         None => Status::Usage,
     }
 }

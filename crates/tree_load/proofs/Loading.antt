@@ -42,8 +42,8 @@ get_low [] n x h = cc
 get_low (y ∷ xs) zero x h = omega arith
 get_low (y ∷ xs) (suc n) x h = let l = get_low xs n x h in omega (arith, l)
 
-module _ {S : Type 0} (told : S → Option (List ℕ)) (faults : S → ℕ) (f : Opening) (o h : List Entry) (count seed calls done : ℕ) (nodes : List NodeView) (sources : List (SourceView S))
-    (m : AreMade told faults f o h (stated_calls count seed calls) done 0 nodes sources) where
+module _ {S : Type 0} (told : S → Option (List ℕ)) (faults : S → ℕ) (reads : S → ℕ → Option (List ℕ) → S → Type 0) (f : Opening) (o h : List Entry) (samples : List S) (count seed calls done : ℕ) (nodes : List NodeView) (sources : List (SourceView S))
+    (m : AreMade told faults reads f o h samples (stated_calls count seed calls) done 0 nodes sources) where
   are_done : AreDone m.entries
   are_done = all_done m.entries (subst ArePlain (sym m.calls_are) (all_plain count seed calls)) m.refused_are
 

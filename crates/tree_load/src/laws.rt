@@ -51,13 +51,13 @@ pub fn counts_know_no_order()
 /// So it is of a load none of whose calls was refused: the counts of every node and every source after it are those that the plan, the
 /// counts before it and the stated calls say.
 pub fn loads_decide_counts<S: Samples>()
-    ensures nodes { (f : Opening) (o h : List Entry) (count seed calls done : ℕ)
+    ensures nodes { (f : Opening) (o h : List Entry) (samples : List S) (count seed calls done : ℕ)
         (nodes : List NodeView) (sources : List (SourceView S)) →
-        AreMade S.told S.faults f o h (stated_calls count seed calls) done 0 nodes sources → (n : ℕ) (v : NodeView) → slice_get nodes n ≡ Some v →
+        AreMade S.told S.faults S.reads f o h samples (stated_calls count seed calls) done 0 nodes sources → (n : ℕ) (v : NodeView) → slice_get nodes n ≡ Some v →
         counts_of v.state ≡ node_tally f.plan (counts_at (states_behind f o h)) (asked_of (stated_calls count seed calls)) n }
-    ensures sources { (f : Opening) (o h : List Entry) (count seed calls done : ℕ)
+    ensures sources { (f : Opening) (o h : List Entry) (samples : List S) (count seed calls done : ℕ)
         (nodes : List NodeView) (sources : List (SourceView S)) →
-        AreMade S.told S.faults f o h (stated_calls count seed calls) done 0 nodes sources → (j : ℕ) (v : SourceView S) → slice_get sources j ≡ Some v →
+        AreMade S.told S.faults S.reads f o h samples (stated_calls count seed calls) done 0 nodes sources → (j : ℕ) (v : SourceView S) → slice_get sources j ≡ Some v →
         view_counts v ≡ source_tally f.plan (counts_at (states_behind f o h)) (asked_of (stated_calls count seed calls)) j
         (source_counts_at f.plan (states_behind f o h) j) }
 {}

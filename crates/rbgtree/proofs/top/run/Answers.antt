@@ -90,3 +90,13 @@ returns-in-Err-read_plan-2-clause-complete g c =
     complete g.W.Samples.Samples.told g.W.Samples.Samples.faults g.W.Samples.Samples.reads _ _ _ _
     (inr (inr (inr (inl (c.in-Some-Load.name.now, c.in-Some-Load.load, command, (refl, inl (c.in-Err-read_plan-2.ensures.ended, c.in-Err-read_plan-2.ensures.recordings, refl)))))))
     (cause_planless Tree (g.W.World.files c.args.world.now) c.in-Some-Load.name.now _ _ _ c.in-Err-read_plan-2.ensures.ended c.in-Err-read_plan-2.ensures.cause refl refl)
+
+-- what `replay` did
+pub returns-in-Some-Replay-clause-ran : goal.returns-in-Some-Replay-clause-ran
+returns-in-Some-Replay-clause-ran g c =
+    let command = subst (λ (k : Command). IsCommand (map string_bytes c.args.words.now) k) c.in-Some-Replay.field-0-is c.in-Some-Replay.ensures.some in
+    inr (inr (inr (inr (inl (c.in-Some-Replay.family, c.in-Some-Replay.name.now, command, (refl, c.run_replay.ensures.recordings, c.run_replay.ensures.replays))))))
+
+pub returns-in-Some-Replay-clause-complete : goal.returns-in-Some-Replay-clause-complete
+returns-in-Some-Replay-clause-complete g c =
+    complete g.W.Samples.Samples.told g.W.Samples.Samples.faults g.W.Samples.Samples.reads _ _ _ _ (returns-in-Some-Replay-clause-ran g c) (search rules)
