@@ -92,9 +92,7 @@ fn command_of(words: &[String]) -> Option<Command<'_>>
 {
     match words {
         [command, name] => file_command(command.as_str(), name.as_str()),
-        [command, family, name] => {
-            replay_of(command.as_str(), family.as_str(), name.as_str())
-        }
+        [command, family, name] => { replay_of(command.as_str(), family.as_str(), name.as_str()) }
         [command, name, count, seed] => load_command(
             command.as_str(),
             name.as_str(),
