@@ -13,5 +13,5 @@ returns-in-Ok-clause-ran g c =
     inr (
       seeds,
       c.in-Ok.ensures.seeds,
-      subst (λ (o : Outside). RanOver g.W.Samples.Samples.told g.W.Samples.Samples.faults c.args.plan seeds o now c.serve.result) same c.serve.ensures.ran,
+      subst (λ (o : Outside). RanOver g.W.Samples.Samples.told g.W.Samples.Samples.faults g.W.Samples.Samples.reads c.args.plan seeds o now c.serve.result) same c.serve.ensures.ran,
     )
