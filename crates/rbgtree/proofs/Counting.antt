@@ -6,7 +6,6 @@ use Rattle.std.proofs.lemmas.List.FromFn.{get_or-range_with_len}
 use Rattle.tree_config.specs.Tree.{Tree}
 use Rattle.entropy_source.specs.Source.{SourceState}
 use Rattle.entropy_source.specs.Views.{SourceView, source_state}
-use Rattle.rbg_nodes.specs.Node.{NodeState}
 use Rattle.rbg_nodes.specs.Views.{NodeView, counts_of}
 use Rattle.rbg_nodes.specs.declared.node.NodeCounts.{NodeCounts}
 use Rattle.tree_rules.specs.History.{States, node_in, source_in}

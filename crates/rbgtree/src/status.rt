@@ -15,7 +15,8 @@ const USAGE: &str =
 /// How the program ended.
 #[derive(Clone, Copy, Debug, PartialEq, Eq)]
 pub enum Status {
-    /// The work was done: the input was read to its end and each frame of it answered, or each source was started.
+    /// The work was done: the input was read to its end and each frame of it answered, each source was started, or each call of a load
+    /// was made.
     Done,
     /// The words are no command that is served.
     Usage,

@@ -1,4 +1,4 @@
-use Rattle.std.proofs.Common.{◌≡◌, ◌∷◌, [], List, ℕ, sym, subst}
+use Rattle.std.proofs.Common.{◌∷◌, [], List, ℕ, sym, subst}
 use Rattle.rbgtree.specs.Commands.{IsLoadCommand}
 use Rattle.rbgtree.proofs.top.load_command.Goals as goal
 
