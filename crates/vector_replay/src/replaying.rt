@@ -11,10 +11,11 @@ use rbg_bytes::{ByteSink, ByteSource, Fixed};
 use std::alloc::Global;
 use vector_text::{Case, Family, Item, TextRefusal, VectorReader};
 
-// Runs a case and counts it, and writes the lines of one that differs.
+// Runs a case, whose second output is kept, and counts it, and writes the lines of one that differs.
 fn take_case<O: ByteSink>(
     totals: &mut Totals,
     case: &Case,
+    got: &mut Fixed<4096>,
     room: &mut [u8],
     output: &mut O,
 ) -> Result<(), ReplayRefusal>
@@ -26,8 +27,7 @@ fn take_case<O: ByteSink>(
     ensures count { OnOk result (totals.new.passed + totals.new.differed ≡ totals.old.passed + totals.old.differed + 1) }
     ensures skipped { totals.new.skipped ≡ totals.old.skipped }
 {
-    let mut got = Fixed::of(&[]);
-    match verdict(case, &mut got) {
+    match verdict(case, got) {
         Verdict::Same => {
             totals.passed += 1;
             Ok(())
@@ -36,7 +36,7 @@ fn take_case<O: ByteSink>(
             line: case.line,
             why: 7,
         })),
-        Verdict::Differs => match write_difference(case, &got, room, output) {
+        Verdict::Differs => match write_difference(case, got, room, output) {
             Ok(()) => {
                 totals.differed += 1;
                 Ok(())
@@ -81,6 +81,7 @@ pub fn replay<I: ByteSource, O: ByteSink>(
         Ok(room) => room,
         Err(_) => return Err(ReplayRefusal::OutOfMemory),
     };
+    let mut got = Fixed::of(&[]);
     let mut totals = Totals {
         passed: 0,
         differed: 0,
@@ -88,7 +89,13 @@ pub fn replay<I: ByteSource, O: ByteSink>(
     };
     'items: loop {
         match reader.next(input) {
-            Ok(Item::Case) => match take_case(&mut totals, reader.case(), &mut room, output) {
+            Ok(Item::Case) => match take_case(
+                &mut totals,
+                reader.case(),
+                &mut got,
+                &mut room,
+                output,
+            ) {
                 Ok(()) => {}
                 Err(why) => return Err(why),
             },

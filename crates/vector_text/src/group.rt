@@ -190,12 +190,21 @@ impl Gathered {
     }
 }
 
+// Empties a string. One that is empty stays as it is, since a new one costs as much as 4,096 bytes.
+fn clear(value: &mut Fixed<4096>)
+    ensures { value.new ≡ [] }
+{
+    if value.as_slice().len() != 0 {
+        *value = empty();
+    }
+}
+
 // Empties a string whose line is missing.
 fn finish_once(stood: bool, value: &mut Fixed<4096>)
     ensures { value.new ≡ first (once stood value.old) }
 {
     if !stood {
-        *value = empty();
+        clear(value);
     }
 }
 
@@ -206,10 +215,10 @@ fn finish_twice(stood: u8, one: &mut Fixed<4096>, other: &mut Fixed<4096>)
 {
     match stood {
         0 => {
-            *one = empty();
-            *other = empty();
+            clear(one);
+            clear(other);
         }
-        1 => *other = empty(),
+        1 => clear(other),
         _ => {}
     }
 }

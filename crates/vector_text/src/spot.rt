@@ -9,6 +9,7 @@ ghost use Rattle.vector_text.specs.declared.case.Family.{Family};
 ghost use Rattle.vector_text.specs.Spots.{EndsText, OpenBehind, OpenTook, Says, answer_of, closes, lines_behind, lines_taken, number_behind, place_of, took_of};
 
 use crate::case::Family;
+use crate::digits::decode_row;
 use crate::group::Gathered;
 use crate::shape::{Field, Section, Shape, shape_of, value_of};
 use hex::FromHexError;
@@ -62,7 +63,7 @@ impl Took {
     }
 }
 
-// Puts the bytes that hexadecimal digits write to the front of the room, and says how many.
+// Puts the bytes that hexadecimal digits write to the front of the room, and says how many. Where they are no digits, says why.
 fn decode(digits: &[u8], room: &mut [u8]) -> Result<usize, FromHexError>
     requires { length digits.now ≤ 2 * length room.old }
     ensures bytes { MatchResult result (λ n. decode_of digits.now ≡ Ok (take n room.new)) (λ why. decode_of digits.now ≡ Err why) }
@@ -70,6 +71,9 @@ fn decode(digits: &[u8], room: &mut [u8]) -> Result<usize, FromHexError>
     ensures room { length room.new ≡ length room.old }
 {
     let len = digits.len() / 2;
+    if digits.len() == 2 * len && decode_row(digits, &mut room[..len]) {
+        return Ok(len);
+    }
     match hex::decode_to_slice(digits, &mut room[..len]) {
         Ok(()) => Ok(len),
         Err(why) => Err(why),
