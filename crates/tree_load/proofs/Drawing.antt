@@ -14,13 +14,13 @@ pub record IsCounted (blocks taken : ℕ) (x y : SourceState) : Type 0 where
   pub blocks_are : y.blocks ≡ x.blocks + blocks
   pub taken_are : y.taken ≡ x.taken + taken
 
-after_append : (row : SourceRow) (s : SourceState) (xs ys : List SourceAct) → source_after_all row s (xs ++ ys) ≡ source_after_all row (source_after_all row s xs) ys
+pub after_append : (row : SourceRow) (s : SourceState) (xs ys : List SourceAct) → source_after_all row s (xs ++ ys) ≡ source_after_all row (source_after_all row s xs) ys
 after_append row s [] ys = refl
 after_append row s (x ∷ xs) ys = after_append row (source_after row s x) xs ys
 
 module _ (row : SourceRow) (found : List ℕ → List ℕ → Option Alarm) where
   -- the reads for a block take exactly what it lacks
-  gathers_count : (lacks : ℕ) (s : SourceState) (has read : List ℕ) (acts : List SourceAct) (block : List ℕ) → Gathers row found lacks s has read acts (Ok block)
+  pub gathers_count : (lacks : ℕ) (s : SourceState) (has read : List ℕ) (acts : List SourceAct) (block : List ℕ) → Gathers row found lacks s has read acts (Ok block)
       → IsCounted 0 lacks s (source_after_all row s acts)
   gathers_count lacks s has read [] block (a, b) = record { blocks_are = omega arith; taken_are = omega (arith, a) }
   gathers_count lacks s has read (Read asked None count ∷ acts) block (a, b, c, d, e) = cc

@@ -25,6 +25,7 @@ use Rattle.tree_load.specs.Tallied.{AreDone, asked_by, counts_at, source_counts_
 use Rattle.tree_load.specs.Fits.{AllFit, SourceFits}
 use Rattle.tree_load.specs.Weights.{weigh}
 use Rattle.tree_load.proofs.Asking.{length_weighs}
+use Rattle.tree_load.proofs.Bounding.{history_limited}
 use Rattle.tree_load.proofs.Lining.{some_interval}
 use Rattle.tree_load.proofs.Tallying.{kept, nodes_decided, sources_decided}
 use Rattle.tree_load.proofs.Weighing.{asks_weigh, hands, none_below, sum_least}
@@ -112,10 +113,11 @@ module _ (f : Opening) (o h es : List Entry) (is : IsHistory f o (h ++ es)) (all
         let k = (kept f o h es is).capped n in
         omega (arith, a, b, d, g, e, m, i, k)
 
-  pub sources_fit : (j : ℕ) → (source_counts_at f.plan (states_behind f o (h ++ es)) j).blocks < 2 ^ 64 → (source_counts_at f.plan (states_behind f o (h ++ es)) j).taken < 2 ^ 64
-      → SourceFits f.plan (counts_at (states_behind f o h)) (asked_by es) j (source_counts_at f.plan (states_behind f o h) j)
-  sources_fit j blocks taken =
-      let same = sources_decided f o h es is all j in record {
-        blocks = subst (λ (x : SourceCounts). x.blocks < 2 ^ 64) same blocks;
-        taken = subst (λ (x : SourceCounts). x.taken < 2 ^ 64) same taken;
+  pub sources_fit : (j : ℕ) → SourceFits f.plan (counts_at (states_behind f o h)) (asked_by es) j (source_counts_at f.plan (states_behind f o h) j)
+  sources_fit j =
+      let same = sources_decided f o h es is all j in
+      let limit = history_limited f o (h ++ es) is j in
+      let t = limit.taken in let b = limit.blocks in record {
+        blocks = subst (λ (x : SourceCounts). x.blocks < 2 ^ 64) same (omega (arith, t, b));
+        taken = subst (λ (x : SourceCounts). x.taken < 2 ^ 64) same (omega (arith, t));
       }

@@ -15,3 +15,4 @@ pub mod Loading
 pub mod Weighing
 pub mod Summing
 pub mod Fitting
+pub mod Bounding

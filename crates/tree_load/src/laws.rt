@@ -62,12 +62,18 @@ pub fn loads_decide_counts<S: Samples>()
         (source_counts_at f.plan (states_behind f o h) j) }
 {}
 
-/// The numbers of every such run fit 64 bits, behind at most 2^46 entries in all, so that `node_tally` and `source_tally` compute its counts;
-/// of a source's where the counts after the run do.
+/// The numbers of every such run fit 64 bits, of nodes behind at most 2^46 entries in all, so that `node_tally` and `source_tally` compute
+/// its counts.
 pub fn runs_fit()
     ensures nodes { (f : Opening) (o h es : List Entry) → IsHistory f o (h ++ es) → AreDone es → length (h ++ es) ≤ 2 ^ 46 →
         AllFit f.plan (counts_at (states_behind f o h)) (asked_by es) }
     ensures sources { (f : Opening) (o h es : List Entry) → IsHistory f o (h ++ es) → AreDone es → (j : ℕ) →
-        (source_counts_at f.plan (states_behind f o (h ++ es)) j).blocks < 2 ^ 64 → (source_counts_at f.plan (states_behind f o (h ++ es)) j).taken < 2 ^ 64 →
         SourceFits f.plan (counts_at (states_behind f o h)) (asked_by es) j (source_counts_at f.plan (states_behind f o h) j) }
+{}
+
+/// After every history, at most 2^60 samples were taken from a source, and no more blocks were made of them than they are.
+pub fn sources_have_a_limit()
+    ensures taken { (f : Opening) (o h : List Entry) → IsHistory f o h → (j : ℕ) → (source_counts_at f.plan (states_behind f o h) j).taken ≤ 2 ^ 60 }
+    ensures blocks { (f : Opening) (o h : List Entry) → IsHistory f o h → (j : ℕ) →
+        (source_counts_at f.plan (states_behind f o h) j).blocks ≤ (source_counts_at f.plan (states_behind f o h) j).taken }
 {}
