@@ -16,3 +16,4 @@ pub mod Weighing
 pub mod Summing
 pub mod Fitting
 pub mod Bounding
+pub mod Reaching

@@ -49,7 +49,7 @@ none_gives row = by (is_rs row.kind) where
   by true = refl
   by false = refl
 
-all_empty : (g : ℕ → List ℕ) → ((m : ℕ) → g m ≡ []) → (xs : List ℕ) → flat_map g xs ≡ []
+pub all_empty : (g : ℕ → List ℕ) → ((m : ℕ) → g m ≡ []) → (xs : List ℕ) → flat_map g xs ≡ []
 all_empty g none [] = refl
 all_empty g none (x ∷ xs) = ap (λ z. z ++ flat_map g xs) (none x) ∙ all_empty g none xs
 

@@ -1,19 +1,32 @@
 // Laws on the counts of a tree after calls. Each is a function without a body of its own, whose contract is the law; no program calls them.
-ghost use Rattle.std.specs.Prelude.{◌≡◌, ◌<◌, ◌≤◌, ◌^◌, ◌++◌, ℕ, List, length, slice_get, Some};
+ghost use Rattle.std.specs.Prelude.{◌≡◌, ◌<◌, ◌≤◌, ◌^◌, ◌++◌, ℕ, List, [], length, flat_map, slice_get, Some, if◌then◌else◌};
+ghost use Rattle.std.specs.List.{range_with_len};
+ghost use Rattle.std.proofs.Math.ListN.{replicate};
 ghost use Rattle.entropy_source.specs.Views.{SourceView};
 ghost use Rattle.rbg_nodes.specs.Views.{NodeView, counts_of};
 ghost use Rattle.rbg_nodes.specs.declared.node.NodeCounts.{NodeCounts};
-ghost use Rattle.tree_config.specs.Tree.{Tree};
+ghost use Rattle.rbg_nodes.specs.Node.{entropy_len};
+ghost use Rattle.tree_config.specs.Tree.{IsTree, Tree};
 ghost use Rattle.tree_core.specs.declared.solo.SourceCounts.{SourceCounts};
 ghost use Rattle.tree_rules.specs.History.{Entry, Opening};
 ghost use Rattle.tree_rules.specs.Openings.{IsHistory, states_behind};
+ghost use Rattle.tree_rules.specs.Slots.{node_row};
 ghost use Rattle.tree_load.specs.Load.{stated_calls};
 ghost use Rattle.tree_load.specs.Made.{AreMade};
-ghost use Rattle.tree_load.specs.Tally.{SameLengths, node_tally, source_tally};
+ghost use Rattle.tree_load.specs.Tally.{SameLengths, all_asks, is_child, node_tally, reseeds_for, source_tally};
 ghost use Rattle.tree_load.specs.Tallied.{AreDone, asked_by, asked_of, counts_at, source_counts_at, view_counts};
 ghost use Rattle.tree_load.specs.Fits.{AllFit, SourceFits};
 
 use sample_source::Samples;
+
+/// In a tree, what is asked of a node is what its own calls ask, and for each reseed of each child, by all that is asked of that child, as
+/// many bytes as the child's entropy has. So children are followed far enough.
+pub fn asks_reach_all_nodes_below()
+    ensures { (limit : ℕ) (p : Tree) → IsTree limit p.nodes → (counter : ℕ → ℕ) (own : ℕ → List ℕ) (n : ℕ) →
+        all_asks p counter own n ≡ own n ++ flat_map (λ m. if is_child p n m
+        then replicate (reseeds_for (node_row p m) (counter m) (all_asks p counter own m)) (entropy_len (node_row p m)) else [])
+        (range_with_len 0 (length p.nodes)) }
+{}
 
 /// Behind every history, calls of any callers decide the counts after them, where each is a Generate without prediction resistance or a
 /// Status and is Done: the counts of every node and every source are those that the plan, the counts before the calls and the lengths

@@ -16,7 +16,8 @@ mod tests;
 
 pub use blocks::source_tally;
 pub use laws::{
-    calls_decide_counts, counts_know_no_order, loads_decide_counts, runs_fit, sources_have_a_limit,
+    asks_reach_all_nodes_below, calls_decide_counts, counts_know_no_order, loads_decide_counts,
+    runs_fit, sources_have_a_limit,
 };
 pub use load::{CallsMade, make_stated_calls};
 pub use stated::StatedCalls;
