@@ -11,8 +11,16 @@ use std::hint::spin_loop;
 use std::sync::Wait;
 use std::sync::atomic::Ordering;
 
-// How often a pass looks at a turn before it sleeps, some 10 to 20 microseconds on processors of today.
-const LOOKS: u32 = 300;
+// A pass that waits looks so often before a sleep, with so many pauses between two looks: some 60 microseconds in all.
+const LOOKS: u32 = 128;
+
+const PAUSES: u32 = 32;
+
+fn pause() {
+    for _ in 0..PAUSES {
+        spin_loop();
+    }
+}
 
 /// Who has the turn of a slot, and for which target.
 #[derive(Clone, Copy, Debug, PartialEq, Eq)]
@@ -109,32 +117,6 @@ impl<M: Machine> Turns<M> {
             .load::<Glance<M>>(&mut pass.seat, 2 + slot as usize)
     }
 
-    // Sleeps while the turn has this word.
-    fn sleep<R: Wait>(&self, rt: &R, slot: u16, word: u64)
-        requires { slot < self.now.table.slots }
-    {
-        let shared = &self.table.shared;
-        shared.park(rt, 2 + slot as usize, (word % 4294967296) as u32);
-    }
-
-    // Looks until the turn was seen free, and sleeps between two looks.
-    #[tactic(auto, using(crate::proofs::Looking::sees_same, crate::proofs::Looking::sees_on, crate::proofs::Looking::looks_on))]
-    fn look_until_free<R: Wait>(&self, rt: &R, pass: &mut Pass<M>, slot: u16)
-        requires own { pass.old.table ≡ self.now.table }
-        requires slot { slot < self.now.table.slots }
-        ensures own { pass.new.table ≡ pass.old.table }
-        ensures looked { Looks M.meaning pass.old.view pass.new.view }
-    {
-        for _ in rt.forever() {
-            let word = self.glance(pass, slot);
-            if word == 0 {
-                return;
-            }
-            self.sleep(rt, slot, word);
-        }
-        unreachable!()
-    }
-
     // Looks at the turn for a short time, as long as another pass has it.
     fn spin(&self, slot: u16)
         requires { slot < self.now.table.slots }
@@ -143,24 +125,26 @@ impl<M: Machine> Turns<M> {
             if self.table.shared.peek(2 + slot as usize) == 0 {
                 return;
             }
-            spin_loop();
+            pause();
         }
     }
 
-    // Sleeps until the turn was seen free.
-    fn wait_long<R: Wait>(&self, rt: &R, pass: &mut Pass<M>, slot: u16)
-        requires own { pass.old.table ≡ self.now.table }
-        requires slot { slot < self.now.table.slots }
-        ensures own { pass.new.table ≡ pass.old.table }
-        ensures looked { Looks M.meaning pass.old.view pass.new.view }
+    // Sleeps until it is woken, unless the turn is free.
+    fn sleep<R: Wait>(&self, rt: &R, slot: u16)
+        requires { slot < self.now.table.slots }
     {
+        let index = 2 + slot as usize;
+        let shared = &self.table.shared;
         self.waiting.fetch_add(1, Ordering::SeqCst);
-        self.look_until_free(rt, pass, slot);
+        let word = shared.peek(index);
+        if word != 0 {
+            shared.park(rt, index, (word % 4294967296) as u32);
+        }
         self.waiting.fetch_sub(1, Ordering::SeqCst);
     }
 
-    /// Waits until the turn of a slot was seen free. Another pass may have taken it since. The pass has seen the whole history then. A turn that
-    /// comes free soon is waited for without sleep.
+    /// Waits until the turn of a slot was seen free. Another pass may have taken it since. The pass has seen the whole history then. It looks
+    /// for a short time before each sleep.
     #[tactic(auto, using(crate::proofs::Looking::sees_same, crate::proofs::Looking::sees_on, crate::proofs::Looking::looks_on))]
     pub fn wait_for<R: Wait>(&self, rt: &R, pass: &mut Pass<M>, slot: u16)
         requires own { pass.old.table ≡ self.now.table }
@@ -168,9 +152,13 @@ impl<M: Machine> Turns<M> {
         ensures own { pass.new.table ≡ pass.old.table }
         ensures looked { Looks M.meaning pass.old.view pass.new.view }
     {
-        self.spin(slot);
-        if self.glance(pass, slot) != 0 {
-            self.wait_long(rt, pass, slot);
+        for _ in rt.forever() {
+            self.spin(slot);
+            if self.glance(pass, slot) == 0 {
+                return;
+            }
+            self.sleep(rt, slot);
         }
+        unreachable!()
     }
 }

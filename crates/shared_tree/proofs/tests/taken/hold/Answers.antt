@@ -1,4 +1,4 @@
-use Rattle.std.proofs.Common.{◌<◌, ℕ, length, subst, sym}
+use Rattle.std.proofs.Common.{◌<◌, length, subst, sym}
 use Rattle.shared_tree.specs.Passes.{SharedView}
 use Rattle.shared_tree.proofs.Holding.{has_none, may_return, node_slot, on_own_path}
 use Rattle.shared_tree.proofs.tests.taken.hold.Goals as goal
