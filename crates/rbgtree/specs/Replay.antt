@@ -22,8 +22,9 @@ status_by (Err (replays.TheVariants.Text (texts.TheVariants.ReadFault count))) =
 status_by (Err (replays.TheVariants.WriteFault count)) = WriteFault count
 status_by (Err replays.TheVariants.OutOfMemory) = Memory
 
--- What became of a text: the file could not be read, or memory was lacking, and nothing was printed; or the text is that of the file
--- of this name, where the files are told, at most its first 2^63 bytes, and what is printed is its report by how the replay ended.
+-- What became of a text: the first read of the file failed, or memory was lacking, and nothing was printed; or the text is that of the
+-- file of this name, where the files are told, at most its first 2^63 bytes, and what is printed is its report by how the replay ended.
+-- After a read of the file that failed later, whole lines of the report are printed, and no others.
 abbrev pub Replays : Option Entries → Family → List ℕ → ℕ → Option (List ℕ) → Option (List ℕ) → Status → Type 0
 Replays files family name world before now status =
     ((why : NotOpened) × (status ≡ status_without why world) × (now ≡ before))

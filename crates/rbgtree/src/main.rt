@@ -5,7 +5,7 @@
 //! - `serve`: a tree over them, and one session of frames on it;
 //! - `load`: stated calls on such a tree, and `counts`, the lines that are printed of them;
 //! - `check`: one start of each source of a configuration, and `printed`, the lines that are printed of it;
-//! - `text` and `replaying`: a text that is read from a file, and what is printed of it;
+//! - `replaying`: a text that is read from a file, and what is printed of it;
 //! - `status` and `lines`: how the program ends, as a number and as a line;
 //! - `world`: what is asked of the outside beside input and output, `memory_world` and `host` what meets it.
 #![tactic(auto)]
@@ -22,7 +22,6 @@ mod replaying;
 mod seeds;
 mod serve;
 mod status;
-mod text;
 mod top;
 mod world;
 

@@ -3,14 +3,15 @@ ghost use Rattle.std.specs.Prelude.{◌≡◌};
 ghost use Rattle.rbgtree.specs.Check.{HasCheckCause};
 ghost use Rattle.rbgtree.specs.Replay.{Replays, status_by};
 
-use crate::check::not_opened;
 use crate::status::Status;
-use crate::text::{TextSource, read_text};
 use crate::world::World;
 use rbg_bytes::ByteSink;
 use std::alloc::Global;
-use vector_replay::{ReplayRefusal, Totals, replay};
+use vector_replay::{ReplayRefusal, Replaying, Totals};
 use vector_text::{Family, TextRefusal};
+
+/// The bytes that one read of a file asks for.
+const PIECE: usize = 32_768;
 
 // How the program ends where a text was replayed so.
 fn status_by(ended: Result<Totals, ReplayRefusal>) -> Status
@@ -32,7 +33,8 @@ fn status_by(ended: Result<Totals, ReplayRefusal>) -> Status
     }
 }
 
-/// Replays the text of a file for a family: the file is read to its end, and then its cases are run one after another.
+/// Replays the text of a file for a family: the file is read piece by piece, and the cases that end in a piece are run before the
+/// next is read. All memory is taken first.
 pub fn run_replay<W: World, O: ByteSink>(
     alloc: Global,
     family: Family,
@@ -45,10 +47,22 @@ pub fn run_replay<W: World, O: ByteSink>(
     ensures recordings { W.recordings world.new ≡ W.recordings world.old }
     ensures cause { HasCheckCause (W.faults world.old) (W.faults world.new) (O.faults output.old) (O.faults output.new) result }
 {
-    let text = match read_text(alloc, name, world) {
-        Ok(text) => text,
-        Err(why) => return not_opened(why, world),
+    let Ok(mut replaying) = Replaying::open(alloc, family) else {
+        return Status::Memory;
     };
-    let mut source = TextSource::new(&text);
-    status_by(replay(alloc, family, &mut source, output))
+    let Ok(mut piece) = vec![in alloc; 0u8; PIECE] else {
+        return Status::Memory;
+    };
+    let mut place: u64 = 0;
+    'pieces: loop {
+        let Ok(count) = world.read_file(name, place, &mut piece) else {
+            return Status::OpenFault {
+                count: world.fault_count(),
+            };
+        };
+        if let Some(ended) = replaying.feed(&piece[..count], output) {
+            return status_by(ended);
+        }
+        place += count as u64;
+    }
 }

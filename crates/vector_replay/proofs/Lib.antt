@@ -1,3 +1,4 @@
 mod Judging
 mod Reporting
+pub mod Pieced
 mod Writing

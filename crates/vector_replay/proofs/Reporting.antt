@@ -24,19 +24,19 @@ use Rattle.vector_text.proofs.Writing.{appends_none}
 
 -- ---- one step of a report
 
-report_skip : (t : Totals) (later : List Entry) → report_of t (ASkip ∷ later) ≡ report_of (one_skipped t) later
+pub report_skip : (t : Totals) (later : List Entry) → report_of t (ASkip ∷ later) ≡ report_of (one_skipped t) later
 unfolding report_of
 report_skip t later = refl
 
-report_end : (t : Totals) (later : List Entry) → report_of t (TheEnd ∷ later) ≡ record { lines = totals_line t ∷ []; end = Counted t }
+pub report_end : (t : Totals) (later : List Entry) → report_of t (TheEnd ∷ later) ≡ record { lines = totals_line t ∷ []; end = Counted t }
 unfolding report_of
 report_end t later = refl
 
-report_fault : (t : Totals) (line why : ℕ) (later : List Entry) → report_of t (AFault line why ∷ later) ≡ record { lines = []; end = Faulty line why }
+pub report_fault : (t : Totals) (line why : ℕ) (later : List Entry) → report_of t (AFault line why ∷ later) ≡ record { lines = []; end = Faulty line why }
 unfolding report_of
 report_fault t line why later = refl
 
-with_both : (a b : List (List ℕ)) (r : Report) → with_lines (a ++ b) r ≡ with_lines a (with_lines b r)
+pub with_both : (a b : List (List ℕ)) (r : Report) → with_lines (a ++ b) r ≡ with_lines a (with_lines b r)
 with_both a b r = ap (λ (x : List (List ℕ)). record { lines = x; end = r.end }) (append_assoc a b r.lines)
 
 -- ---- what may follow
@@ -114,7 +114,7 @@ ended : (f : Family) (left0 out now : Option (List ℕ)) (said : List (List ℕ)
     → Reports f left0 said rest → Ends (with_lines said rest) out now result → EndsSo f left0 out now result
 ended f left0 out now said rest result p ends = (p.0, p.1, subst (λ (r : Report). Ends r out now result) (sym p.2) ends)
 
-concat_one : (said : List (List ℕ)) (line : List ℕ) → concat (said ++ line ∷ []) ≡ concat said ++ line
+pub concat_one : (said : List (List ℕ)) (line : List ℕ) → concat (said ++ line ∷ []) ≡ concat said ++ line
 concat_one said line = concat-append said (line ∷ []) ∙ ap (λ (x : List ℕ). concat said ++ x) (append-nil line)
 
 -- at the end of the text

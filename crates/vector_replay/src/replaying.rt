@@ -11,8 +11,8 @@ use rbg_bytes::{ByteSink, ByteSource, Fixed};
 use std::alloc::Global;
 use vector_text::{Case, Family, Item, TextRefusal, VectorReader};
 
-// Runs a case, whose second output is kept, and counts it, and writes the lines of one that differs.
-fn take_case<O: ByteSink>(
+/// Runs a case, whose second output is kept, and counts it, and writes the lines of one that differs.
+pub fn take_case<O: ByteSink>(
     totals: &mut Totals,
     case: &Case,
     got: &mut Fixed<4096>,
@@ -48,8 +48,8 @@ fn take_case<O: ByteSink>(
     }
 }
 
-// Writes the last line.
-fn finish<O: ByteSink>(totals: Totals, output: &mut O) -> Result<Totals, ReplayRefusal>
+/// Writes the last line.
+pub fn finish<O: ByteSink>(totals: Totals, output: &mut O) -> Result<Totals, ReplayRefusal>
     ensures finishes { Finishes totals (O.out output.old) (O.out output.new) result }
     ensures cause { HasWriteCause (O.faults output.old) (O.faults output.new) result }
 {

@@ -1,11 +1,12 @@
 -- Reads, and what may follow.
-use Rattle.std.proofs.Common.{zero, suc, ◌≡◌, ◌<◌, ◌≤◌, ℕ, ◌+◌, ◌-◌, List, [], ◌∷◌, ◌++◌, length, take, drop, cond, Bool, false, refl, sym, ap, ◌∙◌, subst, arith, append-nil, length-append, length-take, Option, Some, None}
+use Rattle.std.proofs.Common.{zero, suc, ◌≡◌, ◌<◌, ◌≤◌, ℕ, ◌+◌, ◌-◌, List, [], ◌∷◌, ◌++◌, length, take, drop, cond, Bool, false, refl, sym, ap, ◌∙◌, subst, arith, append-nil, length-append, length-take, Option, Some, None, min, inl, inr}
 use Rattle.std.specs.List.{All}
 use Rattle.std.specs.Str.Lines.{lines}
 use Rattle.std.specs.Io.KnownBytes.{Consumes, Keeps, IsAtEnd}
 use Rattle.std.proofs.Math.Seq.{take-append-add, take-add, take-length, take-nil, drop-length}
-use Rattle.std.proofs.lemmas.List.{drop-drop, drop-take}
-use Rattle.vector_text.specs.Feeding.{Window, Follows, is_line_feed, Grows, HasLine, Finds, last_found}
+use Rattle.std.proofs.lemmas.List.{drop-drop, drop-take, drop-append-le, take_all}
+use Rattle.std.proofs.lemmas.Bool.{cases_lt}
+use Rattle.vector_text.specs.Feeding.{Window, Follows, given, is_line_feed, Grows, HasLine, Finds, last_found}
 use Rattle.vector_text.specs.declared.feed.Found.{Found}
 use Rattle.vector_text.specs.declared.feed.Found.TheVariants.{End, Line, Long}
 use Rattle.vector_text.proofs.Lining.{lines_last, lines_long, nonempty}
@@ -134,3 +135,44 @@ read_failed left left' b b' at end room ahead ahead' order same was now keeps un
   follows = λ more f. follows_kept left left' room more keeps untold f;
   size = omega arith;
 }
+
+-- ---- a piece is taken in
+
+abbrev window : List ℕ → ℕ → Window
+window ahead room = record { ahead = ahead; room = room }
+
+window_same : (a b : List ℕ) (m n : ℕ) → a ≡ b → m ≡ n → window a m ≡ window b n
+window_same a b m n e f = ap (λ (x : List ℕ). window x m) e ∙ ap (window b) f
+
+-- as many bytes as there are, or as there is room for
+taken_within : (n room : ℕ) (piece : List ℕ) → n ≡ min (length piece) room → take n piece ≡ take room piece
+taken_within n room piece e = elim (cases_lt room (length piece)) [
+  | inl less ↦ ap (λ (k : ℕ). take k piece) (e ∙ omega (arith, less))
+  | inr fits ↦ ap (λ (k : ℕ). take k piece) (e ∙ omega (arith, fits)) ∙ (take-length piece ∙ sym (take_all room piece fits))
+]
+
+-- what stands in a buffer behind which so many bytes of a piece were put
+given_ahead : (b b' piece : List ℕ) (at end n : ℕ) → at ≤ end → end ≤ length b → take (end + n) b' ≡ take end b ++ take n piece
+    → take (end + n - at) (drop at b') ≡ take (end - at) (drop at b) ++ take n piece
+given_ahead b b' piece at end n order fits same =
+    let whole : at + (end + n - at) ≡ end + n = omega (arith, order) in
+    let parts : at + (end - at) ≡ end = omega (arith, order) in
+    let front : take (end - at) (drop at b) ≡ drop at (take end b) = sym (drop-take at (end - at) b) ∙ ap (λ (k : ℕ). drop at (take k b)) parts in
+    sym (drop-take at (end + n - at) b') ∙ (ap (λ (k : ℕ). drop at (take k b')) whole ∙ (ap (drop at) same
+    ∙ (drop-append-le at (take end b) (take n piece) (omega (arith, order, fits, length-take end b)) ∙ ap (λ (x : List ℕ). x ++ take n piece) (sym front))))
+
+rest_behind : (n len room room' : ℕ) → n ≡ min (suc len) room → (n ≡ 0 → room' ≡ 0) → (0 < n → room' ≡ room - n) → room' ≡ room - suc len
+rest_behind zero len room room' count none some = omega (arith, count, none refl)
+rest_behind (suc n) len room room' count none some = omega (arith, count, some (omega arith))
+
+pub given_into : (b b' piece : List ℕ) (at end n room room' : ℕ) (ahead ahead' : List ℕ) → at ≤ end → end ≤ length b → take (end + n) b' ≡ take end b ++ take n piece
+    → n ≡ min (length piece) room → ahead ≡ take (end - at) (drop at b) → ahead' ≡ take (end + n - at) (drop at b') → (n ≡ 0 → room' ≡ 0) → (0 < n → room' ≡ room - n)
+    → ◌≡◌ {A = Window} (record { ahead = ahead'; room = room' }) (given piece (record { ahead = ahead; room = room }))
+given_into b b' [] at end n room room' ahead ahead' order fits same count was now none some =
+    let zero : n ≡ 0 = omega (arith, count) in
+    let stood = now ∙ (given_ahead b b' [] at end n order fits same ∙ (ap (λ (k : ℕ). take (end - at) (drop at b) ++ take k []) zero ∙ (append-nil (take (end - at) (drop at b)) ∙ sym was))) in
+    window_same _ _ room' 0 stood (none zero)
+given_into b b' (byte ∷ piece) at end n room room' ahead ahead' order fits same count was now none some =
+    let stood = now ∙ (given_ahead b b' (byte ∷ piece) at end n order fits same
+    ∙ (ap (λ (x : List ℕ). take (end - at) (drop at b) ++ x) (taken_within n room (byte ∷ piece) count) ∙ ap (λ (x : List ℕ). x ++ take room (byte ∷ piece)) (sym was))) in
+    window_same _ _ room' (room - length (byte ∷ piece)) stood (rest_behind n (length piece) room room' count none some)

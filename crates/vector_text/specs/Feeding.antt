@@ -1,6 +1,6 @@
 -- Bytes that were read and not yet taken, what may follow them, and the line at their front.
 -- This project's own.
-use Rattle.std.specs.Prelude.{◌≡◌, ◌≤◌, ◌<◌, ℕ, ◌+◌, ◌^◌, ◌==◌, Bool, List, [], ◌∷◌, ◌++◌, length, take, drop, nat_eq, if◌then◌else◌, Option, Some, None}
+use Rattle.std.specs.Prelude.{◌≡◌, ◌≤◌, ◌<◌, ℕ, ◌+◌, ◌-◌, ◌^◌, ◌==◌, Bool, List, [], ◌∷◌, ◌++◌, length, take, drop, nat_eq, if◌then◌else◌, Option, Some, None}
 use Rattle.std.specs.Str.Lines.{lines}
 use Rattle.vector_text.specs.declared.feed.Found.{Found}
 use Rattle.vector_text.specs.declared.feed.Found.TheVariants.{End, Line, Long}
@@ -9,6 +9,11 @@ use Rattle.vector_text.specs.declared.feed.Found.TheVariants.{End, Line, Long}
 pub record Window : Type 0 where
   pub ahead : List ℕ
   pub room : ℕ
+
+-- a piece of the text was taken in: an empty one is its end
+abbrev pub given : List ℕ → Window → Window
+given [] w = record w { room = 0 }
+given (byte ∷ piece) w = record { ahead = w.ahead ++ take w.room (byte ∷ piece); room = w.room - length (byte ∷ piece) }
 
 -- a text is the first 2 ^ 63 bytes of its source
 abbrev pub most_bytes : ℕ

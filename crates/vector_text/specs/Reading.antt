@@ -87,6 +87,24 @@ Gives left old left' new (Ok items.TheVariants.End) = Leads left old left' new a
 Gives left old left' new (Err (refusals.TheVariants.Fault line why)) = Leads left old left' new (answers.TheVariants.Fault line why)
 Gives left old left' new (Err (refusals.TheVariants.ReadFault count)) = Leads left old left' new answers.TheVariants.Goes
 
+-- Whatever follows what was read, an answer says this of it. Nothing more was read.
+abbrev pub SaysOf : Reader → Reader → answers.Answer → Type 0
+SaysOf old new answer = (more : List ℕ) → length more ≤ new.window.room → Says answer (left_of old more) new.case (left_of new more)
+
+-- the answer that a result is, where it rests on what was read alone
+abbrev pub GivesHeld : Reader → Reader → Result items.Item refusals.TextRefusal → Type 0
+GivesHeld old new (Ok items.TheVariants.Case) = SaysOf old new answers.TheVariants.Case
+GivesHeld old new (Ok items.TheVariants.Skipped) = SaysOf old new answers.TheVariants.Skipped
+GivesHeld old new (Ok items.TheVariants.End) = SaysOf old new answers.TheVariants.End
+GivesHeld old new (Err (refusals.TheVariants.Fault line why)) = SaysOf old new (answers.TheVariants.Fault line why)
+GivesHeld old new (Err (refusals.TheVariants.ReadFault count)) = ⊥
+
+-- There is no item yet: less than 16,386 bytes are left, and more may follow.
+pub record Waits (old new : Reader) : Type 0 where
+  pub says : SaysOf old new answers.TheVariants.Goes
+  pub room : 0 < new.window.room
+  pub short : length new.window.ahead < 16386
+
 -- A case or a skipped group leaves less, and has a line of its own before the place, but for the group that is open.
 abbrev pub Nears : Result items.Item refusals.TextRefusal → Reader → Reader → Type 0
 Nears (Ok items.TheVariants.Case) old new = Shrinks answers.TheVariants.Case (size_of old) (size_of new) × Counts answers.TheVariants.Case old.place new.place

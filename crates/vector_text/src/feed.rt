@@ -1,12 +1,12 @@
 // The lines of a source, one after another.
-ghost use Rattle.std.specs.Prelude.{◌≡◌, ◌<◌, ◌≤◌, ◌-◌, [], length, take, drop, false, None, IfSome, IfNone, IfOk, OnOk, All};
+ghost use Rattle.std.specs.Prelude.{◌≡◌, ◌<◌, ◌≤◌, ◌-◌, ◌+◌, ◌++◌, [], List, ℕ, length, take, drop, min, false, Option, None, IfSome, IfNone, IfOk, OnOk, All};
 ghost use Rattle.std.specs.Io.KnownBytes.{ReadConsumes};
 ghost use Rattle.std.specs.Str.Lines.{strip_carriage_return};
 ghost use Rattle.rbg_bytes.specs.Streams.{HasCause};
-ghost use Rattle.vector_text.specs.Feeding.{Grows, Finds, IsLineEnd, is_line_feed, last_found, most_bytes};
+ghost use Rattle.vector_text.specs.Feeding.{Grows, Finds, IsLineEnd, given, is_line_feed, last_found, most_bytes};
 
 use crate::shape::MAX_LINE;
-use rbg_bytes::{ByteSource, Failed, OutOfMemory};
+use rbg_bytes::{ByteSource, Failed, OutOfMemory, put_at};
 use std::alloc::Global;
 use std::marker::Model;
 
@@ -64,6 +64,33 @@ fn make_room(buffer: &mut [u8], at: usize, end: usize) -> (usize, usize)
     }
     buffer.rotate_left(at);
     (0, end - at)
+}
+
+// Moves the bytes from `at` to `end` to the front of a buffer where so many more do not fit behind them, and says where they stand.
+fn make_way(buffer: &mut [u8], at: usize, end: usize, count: usize) -> (usize, usize)
+    requires order { (at ≤ end) × (end ≤ length buffer.old) }
+    requires short { end - at + count ≤ length buffer.old }
+    ensures order { result.0 ≤ result.1 }
+    ensures room { result.1 + count ≤ length buffer.new }
+    ensures same { take (result.1 - result.0) (drop result.0 buffer.new) ≡ take (end - at) (drop at buffer.old) }
+    ensures length { length buffer.new ≡ length buffer.old }
+{
+    if count <= buffer.len() - end {
+        return (at, end);
+    }
+    buffer.rotate_left(at);
+    (0, end - at)
+}
+
+// So many bytes, or as many as there is room for.
+fn within(count: usize, room: u64) -> usize
+    ensures { result ≡ min count room }
+{
+    if (count as u64) < room {
+        count
+    } else {
+        room as usize
+    }
 }
 
 /// The bytes of a source that were read and not yet taken. All memory is taken at its begin.
@@ -184,6 +211,37 @@ impl Feed {
         }
     }
 
+    /// Takes in a piece that follows what was read, up to the most bytes of a text. An empty piece is the end.
+    pub fn give(&mut self, piece: &[u8])
+        requires { length self.old.ahead + length piece.now ≤ 65536 }
+        ensures { self.new ≡ given piece.now self.old }
+    {
+        let count = within(piece.len(), self.room);
+        let (at, end) = make_way(&mut self.buffer, self.at, self.end, count);
+        put_at(&mut self.buffer, end, &piece[..count]);
+        self.at = at;
+        self.end = end + count;
+        self.room = room_behind(self.room, count);
+    }
+
+    /// What stands at the front of the bytes that were read, where it doesn't rest on what follows them.
+    pub fn found(&self) -> Option<Found>
+        ensures some { IfSome result (λ found. (left : Option (List ℕ)) → Finds found left self.now) }
+        ensures none { IfNone result ((0 < self.now.room) × (length self.now.ahead < 16386)) }
+    {
+        if let Some((len, whole)) = line_end(self.ahead()) {
+            return Some(Found::Line { len, whole });
+        }
+        let len = self.ahead().len();
+        if self.room == 0 {
+            return Some(last(len));
+        }
+        if MAX_LINE + 2 <= len {
+            return Some(Found::Long);
+        }
+        None
+    }
+
     /// Reads until the line at the front is whole, or nothing more comes. A failed read loses nothing.
     pub fn line<I: ByteSource>(&mut self, input: &mut I) -> Result<Found, Failed>
         ensures found { IfOk result (λ found. Finds found (I.left input.new) self.new) }
@@ -191,15 +249,8 @@ impl Feed {
         ensures cause { HasCause (I.faults input.old) (I.faults input.new) result }
     {
         'reads: loop {
-            if let Some((len, whole)) = line_end(self.ahead()) {
-                return Ok(Found::Line { len, whole });
-            }
-            let len = self.ahead().len();
-            if self.room == 0 {
-                return Ok(last(len));
-            }
-            if MAX_LINE + 2 <= len {
-                return Ok(Found::Long);
+            if let Some(found) = self.found() {
+                return Ok(found);
             }
             match self.read_more(input) {
                 Ok(()) => {}

@@ -1,6 +1,8 @@
 // A reader of a text, one item at a time.
-ghost use Rattle.std.specs.Prelude.{◌≡◌, ◌≤◌, ◌^◌, IfOk};
-ghost use Rattle.vector_text.specs.Reading.{Begins, Gives, HasReadCause, Nears};
+ghost use Rattle.std.specs.Prelude.{◌≡◌, ◌≤◌, ◌^◌, ◌+◌, length, IfOk, IfSome, IfNone};
+ghost use Rattle.vector_text.specs.Feeding.{given};
+ghost use Rattle.vector_text.specs.declared.spot.Answer.TheVariants.{Goes};
+ghost use Rattle.vector_text.specs.Reading.{Begins, Counts, Gives, GivesHeld, HasReadCause, Nears, Waits};
 
 use crate::case::{Case, Family};
 use crate::reading::Reading;
@@ -65,6 +67,27 @@ impl VectorReader {
         ensures cause { HasReadCause (I.faults input.old) (I.faults input.new) result }
     {
         self.reading.next(input)
+    }
+
+    /// Takes in a piece of the text, which follows what was taken in or read before; an empty piece is the end. Of a text the first 2^63
+    /// bytes are taken. After `None` of `next_held` there is room for 49,151 bytes.
+    pub fn give(&mut self, piece: &[u8])
+        requires { length self.old.window.ahead + length piece.now ≤ 65536 }
+        ensures { self.new ≡ record self.old { window = given piece.now self.old.window } }
+    {
+        self.reading.feed.give(piece);
+    }
+
+    /// The next item of what was taken in, or none where that rests on what follows.
+    pub fn next_held(&mut self) -> Option<Result<Item, TextRefusal>>
+        ensures some { IfSome result (GivesHeld self.old self.new) }
+        ensures none { IfNone result (Waits self.old self.new) }
+        ensures room { self.new.window.room ≡ self.old.window.room }
+        ensures nears { IfSome result (λ given. Nears given self.old self.new) }
+        ensures counts { IfNone result (Counts Goes self.old.place self.new.place) }
+        ensures lines { self.new.place.number ≤ 2 ^ 63 }
+    {
+        self.reading.next_held()
     }
 
     /// The case that came last. Before the first it holds nothing of the text.

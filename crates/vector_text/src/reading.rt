@@ -1,9 +1,10 @@
 // A reader from the inside: the lines of a source, one after another, up to the next item.
-ghost use Rattle.std.specs.Prelude.{◌≡◌, ◌≤◌, ◌^◌, List, ℕ, length, Option, IfOk};
+ghost use Rattle.std.specs.Prelude.{◌≡◌, ◌≤◌, ◌^◌, List, ℕ, length, Option, IfOk, IfSome, IfNone};
 ghost use Rattle.rbg_bytes.specs.Streams.{HasCause};
 ghost use Rattle.vector_text.specs.Feeding.{Finds, Follows};
 ghost use Rattle.vector_text.specs.Spots.{Says, place_of, window_behind};
-ghost use Rattle.vector_text.specs.Reading.{Begins, Counts, FitsFound, Gives, HasReadCause, IsReading, Nears, Shrinks, left_of, reader_of, size_of};
+ghost use Rattle.vector_text.specs.declared.spot.Answer.TheVariants.{Goes};
+ghost use Rattle.vector_text.specs.Reading.{Begins, Counts, FitsFound, Gives, GivesHeld, HasReadCause, IsReading, Nears, Shrinks, Waits, left_of, reader_of, size_of};
 
 use crate::case::Family;
 use crate::feed::{Feed, Found};
@@ -82,6 +83,30 @@ impl Reading {
                 let answer = self.spot.take_line(self.family, line, &mut self.room);
                 take_from(&mut self.feed, answer, whole);
                 answer
+            }
+        }
+    }
+
+    /// The next item of what was read, or none where that rests on what follows.
+    pub fn next_held(&mut self) -> Option<Result<Item, TextRefusal>>
+        requires reading { IsReading self.old }
+        ensures some { IfSome result (GivesHeld (reader_of self.old) (reader_of self.new)) }
+        ensures none { IfNone result (Waits (reader_of self.old) (reader_of self.new)) }
+        ensures reading { IsReading self.new }
+        ensures room { self.new.feed.room ≡ self.old.feed.room }
+        ensures nears { IfSome result (λ given. Nears given (reader_of self.old) (reader_of self.new)) }
+        ensures counts { IfNone result (Counts Goes (place_of self.old.spot) (place_of self.new.spot)) }
+    {
+        'lines: loop {
+            let Some(found) = self.feed.found() else {
+                return None;
+            };
+            match self.take(found) {
+                Answer::Goes => {}
+                Answer::Case => return Some(Ok(Item::Case)),
+                Answer::Skipped => return Some(Ok(Item::Skipped)),
+                Answer::End => return Some(Ok(Item::End)),
+                Answer::Fault { line, why } => return Some(Err(TextRefusal::Fault { line, why })),
             }
         }
     }
