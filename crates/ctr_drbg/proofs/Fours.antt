@@ -3,12 +3,13 @@ use Rattle.std.proofs.Common.{◌≡◌, ◌≤◌, ℕ, ◌+◌, ◌*◌, ◌/�
 use Rattle.std.specs.List.{concat}
 use borrow.Rule.Slice.PartMut.{put_mid}
 use Rattle.std.proofs.Math.ListN.{drop_of_length-le}
-use Rattle.std.proofs.lemmas.List.{drop-drop}
+use Rattle.std.proofs.Math.Seq.{take-append-add}
+use Rattle.std.proofs.lemmas.List.{drop-drop, drop-take, take-take, take_all}
 use Rattle.aes_core.specs.Aes.{aes}
 use Rattle.df_core.specs.Df.{blocks_for}
 use Rattle.ctr_drbg.specs.CtrDrbg.{counted, stream}
 use Rattle.ctr_drbg.proofs.Lengths.{length-front, length-stream}
-use Rattle.ctr_drbg.proofs.Rows.{counted-add, stream-append, two_parts}
+use Rattle.ctr_drbg.proofs.Rows.{counted-add, stream-append, stream-behind, stream-fewer, stream-front, two_parts}
 
 -- four blocks in a row
 joined_four : (blocks : List (List ℕ)) → length blocks ≡ 4 →
@@ -70,27 +71,51 @@ put_rest a k xs ys all long =
     let none : drop k (drop a xs) ≡ [] = drop-drop k a xs ∙ drop_of_length-le xs (omega arith) in
     rw (none, append-nil) refl
 
--- four blocks at once, and then the rest one by one
-pub both_parts : (key v last middle rest : List ℕ) (n k : ℕ) → length middle ≡ n → k ≡ n - 64 * (n / 64) →
-    take (64 * (n / 64)) middle ≡ stream key v (4 * (n / 64)) → last ≡ counted v (4 * (n / 64)) →
-    rest ≡ take k (stream key last (blocks_for k)) → put_mid (64 * (n / 64)) k middle rest ≡ take n (stream key v (blocks_for n))
-both_parts key v last middle rest n k long is_k fours is_last is_rest =
-    let q : ℕ = n / 64 in
-    let m : 64 * (n / 64) ≤ n = omega arith in
-    let lr : length rest ≡ k = ap length is_rest ∙ length-front key last k in
-    let lf : length (stream key v (4 * (n / 64))) ≡ 64 * (n / 64) = omega (arith, length-stream key v (4 * (n / 64))) in
-    let blocks : blocks_for n ≡ 4 * (n / 64) + blocks_for k = omega arith in
-    let more : n - length (stream key v (4 * (n / 64))) ≡ k = omega (arith, lf) in
-    put_rest (64 * (n / 64)) k middle rest (omega arith) lr
-    ∙ (ap (λ (x : List ℕ). x ++ rest) fours
-    ∙ (ap (λ (x : List ℕ). stream key v (4 * (n / 64)) ++ x) (is_rest ∙ ap (λ (x : List ℕ). take k (stream key x (blocks_for k))) is_last)
-    ∙ sym (ap (λ (j : ℕ). take n (stream key v j)) blocks
-    ∙ (ap (take n) (stream-append key v (4 * (n / 64)) (blocks_for k))
-    ∙ (two_parts (stream key v (4 * (n / 64))) (stream key (counted v (4 * (n / 64))) (blocks_for k)) n (omega (arith, lf))
-    ∙ ap (λ (j : ℕ). stream key v (4 * (n / 64)) ++ take j (stream key (counted v (4 * (n / 64))) (blocks_for k))) more)))))
+-- some blocks four at once, and the rest one by one, of which more may be made than are asked for
+pub fours_and_ones : (key v last row rest : List ℕ) (f o c k : ℕ) → 64 * f + k ≡ length row → length rest ≡ k → take (64 * f) row ≡ stream key v (4 * f) →
+    last ≡ counted v (4 * f) → 16 * o ≤ k → take (16 * o) rest ≡ stream key last o → c ≤ 4 * f + o → take (16 * c) (put_mid (64 * f) k row rest) ≡ stream key v c
+fours_and_ones key v last row rest f o c k all long fours is_last room ones few =
+    let front = stream key v (4 * f) in
+    let lf : length (stream key v (4 * f)) ≡ 64 * f = omega (arith, length-stream key v (4 * f)) in
+    let at : 64 * f + 16 * o ≡ length (stream key v (4 * f)) + 16 * o = omega (arith, lf) in
+    let both = put_rest (64 * f) k row rest all long ∙ ap (λ (x : List ℕ). x ++ rest) fours in
+    let made : take (64 * f + 16 * o) (put_mid (64 * f) k row rest) ≡ stream key v (4 * f + o) =
+    ap (take (64 * f + 16 * o)) both
+    ∙ (ap (λ (n : ℕ). take n (front ++ rest)) at
+    ∙ (take-append-add front rest (16 * o)
+    ∙ (ap (λ (x : List ℕ). front ++ x) (ones ∙ ap (λ (x : List ℕ). stream key x o) is_last) ∙ sym (stream-append key v (4 * f) o)))) in
+    sym (take-take (16 * c) (64 * f + 16 * o) (put_mid (64 * f) k row rest) (omega (arith, few)))
+    ∙ (ap (take (16 * c)) made ∙ stream-fewer key v c (4 * f + o) few)
 
-pub both_values : (v last value : List ℕ) (n k : ℕ) → k ≡ n - 64 * (n / 64) → last ≡ counted v (4 * (n / 64)) → value ≡ counted last (blocks_for k) →
-    value ≡ counted v (blocks_for n)
-both_values v last value n k is_k is_last is =
-    let blocks : 4 * (n / 64) + blocks_for k ≡ blocks_for n = omega arith in
-    is ∙ (ap (λ (x : List ℕ). counted x (blocks_for k)) is_last ∙ (sym (counted-add v (4 * (n / 64)) (blocks_for k)) ∙ ap (counted v) blocks))
+-- bytes that are made four blocks at once, and then from the front of a row
+pub out_is : (key v last middle row after : List ℕ) (n q r c : ℕ) → length middle ≡ n → length after ≡ n → q ≡ n / 64 → r ≡ n - 64 * q → blocks_for r ≤ c →
+    take (64 * q) middle ≡ stream key v (4 * q) → last ≡ counted v (4 * q) → take (16 * c) row ≡ stream key last c →
+    take (64 * q + length (take r row)) after ≡ take (64 * q) middle ++ take r row → after ≡ take n (stream key v (blocks_for n))
+out_is key v last middle row after n q r c long size is_q is_r few fours is_last is_row put =
+    let front = stream key v (4 * q) in
+    let lf : length (stream key v (4 * q)) ≡ 64 * q = omega (arith, length-stream key v (4 * q)) in
+    let part : take r row ≡ take r (stream key last (blocks_for r)) =
+    sym (take-take r (16 * c) row (omega (arith, few))) ∙ (ap (take r) is_row ∙ stream-front key last r c few) in
+    let lr : length (take r row) ≡ r = ap length part ∙ length-front key last r in
+    let all : take (64 * q + length (take r row)) after ≡ after = take_all (64 * q + length (take r row)) after (omega (arith, size, lr, is_r, is_q)) in
+    let blocks : blocks_for n ≡ 4 * q + blocks_for r = omega (arith, is_r, is_q) in
+    let more : n - length (stream key v (4 * q)) ≡ r = omega (arith, lf, is_r) in
+    sym all
+    ∙ (put
+    ∙ (ap (λ (x : List ℕ). x ++ take r row) fours
+    ∙ (ap (λ (x : List ℕ). front ++ x) (part ∙ ap (λ (x : List ℕ). take r (stream key x (blocks_for r))) is_last)
+    ∙ sym (ap (λ (j : ℕ). take n (stream key v j)) blocks
+    ∙ (ap (take n) (stream-append key v (4 * q) (blocks_for r))
+    ∙ (two_parts front (stream key (counted v (4 * q)) (blocks_for r)) n (omega (arith, lf, is_q))
+    ∙ ap (λ (j : ℕ). front ++ take j (stream key (counted v (4 * q)) (blocks_for r))) more))))))
+
+-- the bytes behind them in the row
+pub seed_is : (key v last row : List ℕ) (n len q b m : ℕ) → n ≤ 16 * m → blocks_for len ≡ 4 * q + b → last ≡ counted v (4 * q) →
+    take (16 * (b + m)) row ≡ stream key last (b + m) → take n (drop (16 * b) row) ≡ take n (stream key (counted v (blocks_for len)) m)
+seed_is key v last row n len q b m few blocks is_last is_row =
+    let at : 16 * b + n ≤ 16 * (b + m) = omega (arith, few) in
+    let value : counted last b ≡ counted v (blocks_for len) = ap (λ (x : List ℕ). counted x b) is_last ∙ (sym (counted-add v (4 * q) b) ∙ ap (counted v) (sym blocks)) in
+    sym (drop-take (16 * b) n row)
+    ∙ (ap (drop (16 * b)) (sym (take-take (16 * b + n) (16 * (b + m)) row at) ∙ ap (take (16 * b + n)) is_row)
+    ∙ (drop-take (16 * b) n (stream key last (b + m))
+    ∙ (stream-behind key last b m n few ∙ ap (λ (x : List ℕ). take n (stream key x m)) value)))

@@ -1,7 +1,7 @@
 -- Rows of bytes: sums, zeros at the end, and the encryptions of counted values.
 use Rattle.std.proofs.Common.{◌≡◌, ◌<◌, ◌≤◌, ℕ, zero, suc, ◌+◌, ◌/◌, ◌-◌, ◌*◌, List, [], ◌++◌, length, take, drop, replicate, refl, sym, ap, subst, ◌∙◌, arith, add-one, append_assoc, append-nil, length-append}
 use Rattle.std.specs.Prelude.{bit_xor}
-use Rattle.std.proofs.Math.Seq.{take-append-add, take-append_seam}
+use Rattle.std.proofs.Math.Seq.{take-append-add, take-append_seam, drop-append_seam}
 use Rattle.std.proofs.lemmas.Simd.{length-zip2}
 use Rattle.rbg_bytes.specs.Xor.{xor_bytes}
 use Rattle.std.proofs.lemmas.List.{drop-replicate, drop-take, length-replicate, length-take-le, take-append-le, take-replicate, take_all}
@@ -90,32 +90,6 @@ block_more key v block out after i so_far is long put =
     let at : 16 * (i + 1) ≡ 16 * i + length block = omega (arith, long) in
     rw (at, stream-more key v i, ← so_far, ← is) put
 
--- all bytes, where they are whole blocks
-pub whole_blocks : (key v out : List ℕ) (n : ℕ) → 16 * (n / 16) ≡ n → length out ≡ n → take (16 * (n / 16)) out ≡ stream key v (n / 16) →
-    out ≡ take n (stream key v (blocks_for n))
-whole_blocks key v out n whole long held =
-    let blocks : blocks_for n ≡ n / 16 = omega arith in
-    let all : take (16 * (n / 16)) out ≡ out = take_all (16 * (n / 16)) out (omega arith) in
-    let le : length (stream key v (n / 16)) ≤ n = omega (arith, length-stream key v (n / 16)) in
-    sym all ∙ (held ∙ (sym (take_all n (stream key v (n / 16)) le) ∙ ap (λ (k : ℕ). take n (stream key v k)) (sym blocks)))
-
--- all bytes, where the last block is cut
-pub last_block : (key v block out after : List ℕ) (n : ℕ) → 16 * (n / 16) < n → length out ≡ n → length after ≡ n →
-    take (16 * (n / 16)) out ≡ stream key v (n / 16) → block ≡ aes key (counted v (n / 16 + 1)) → length block ≡ 16 →
-    take (16 * (n / 16) + length block) after ≡ take (16 * (n / 16)) out ++ take (length out - 16 * (n / 16)) block →
-    after ≡ take n (stream key v (blocks_for n))
-last_block key v block out after n cut long same held is size put =
-    let g = stream key v (n / 16) in
-    let blocks : blocks_for n ≡ n / 16 + 1 = omega arith in
-    let lg : length (stream key v (n / 16)) ≡ 16 * (n / 16) = length-stream key v (n / 16) in
-    let le : length (stream key v (n / 16)) ≤ n = omega (arith, lg) in
-    let all : take (16 * (n / 16) + length block) after ≡ after = take_all (16 * (n / 16) + length block) after (omega (arith, size)) in
-    let rest : length out - 16 * (n / 16) ≡ n - length (stream key v (n / 16)) = omega (arith, lg) in
-    sym all ∙ (put ∙ (ap (λ (x : List ℕ). x ++ take (length out - 16 * (n / 16)) block) held
-    ∙ (ap (λ (k : ℕ). stream key v (n / 16) ++ take k block) rest
-    ∙ (sym (two_parts g block n le) ∙ (ap (λ (b : List ℕ). take n (stream key v (n / 16) ++ b)) is
-    ∙ sym (ap (λ (k : ℕ). take n (stream key v k)) blocks ∙ ap (take n) (stream-more key v (n / 16))))))))
-
 -- ---- the values after V in two goes
 
 pub counted-add : (v : List ℕ) (m n : ℕ) → counted v (m + n) ≡ counted (counted v m) n
@@ -148,3 +122,18 @@ stream-front key v n m few =
     let le : n ≤ length (stream key v (blocks_for n)) = omega (arith, length-stream key v (blocks_for n)) in
     ap (λ (k : ℕ). take n (stream key v k)) (sym e)
     ∙ (ap (take n) (stream-append key v (blocks_for n) (m - blocks_for n)) ∙ take-append-le n front _ le)
+
+-- the bytes of fewer blocks
+pub stream-fewer : (key v : List ℕ) (n m : ℕ) → n ≤ m → take (16 * n) (stream key v m) ≡ stream key v n
+stream-fewer key v n m few =
+    let e : n + (m - n) ≡ m = omega arith in
+    ap (λ (k : ℕ). take (16 * n) (stream key v k)) (sym e)
+    ∙ (ap (take (16 * n)) (stream-append key v n (m - n)) ∙ front_of (16 * n) (stream key v n) _ (length-stream key v n))
+
+-- the bytes behind so many blocks
+pub stream-behind : (key v : List ℕ) (b m n : ℕ) → n ≤ 16 * m → take n (drop (16 * b) (stream key v (b + m))) ≡ take n (stream key (counted v b) m)
+stream-behind key v b m n few =
+    let front = stream key v b in let back = stream key (counted v b) m in
+    let long : length (stream key v b) ≡ 16 * b = length-stream key v b in
+    ap (λ (x : List ℕ). take n (drop (16 * b) x)) (stream-append key v b m)
+    ∙ (ap (λ (k : ℕ). take n (drop k (front ++ back))) (sym long) ∙ ap (take n) (drop-append_seam front back))

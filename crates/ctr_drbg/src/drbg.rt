@@ -1,14 +1,15 @@
 // The working state, and the calls that change it.
-ghost use Rattle.std.specs.Prelude.{◌≡◌, ◌<◌, ◌≤◌, ◌+◌, ◌^◌, ◌↔◌, length, replicate, IsOk, IsErrOf, IfOk, OnOk, OnErr, MatchOption};
+ghost use Rattle.std.specs.Prelude.{◌≡◌, ◌<◌, ◌≤◌, ◌+◌, ◌^◌, ◌↔◌, ℕ, List, length, take, replicate, IsOk, IsErrOf, IfOk, OnOk, OnErr, MatchOption};
 ghost use Rattle.aes_core.specs.Keys.{IsKeyLength};
 ghost use Rattle.df_core.specs.KeyLen.{key_bytes};
-ghost use Rattle.ctr_drbg.specs.CtrDrbg.{additional_seed, after_generate, generated, instantiated, reseeded, seed_len, update, with_additional};
+ghost use Rattle.df_core.specs.Df.{blocks_for};
+ghost use Rattle.ctr_drbg.specs.CtrDrbg.{additional_seed, after_generate, generated, instantiated, reseeded, seed_len, stream, update, with_additional};
 ghost use Rattle.ctr_drbg.specs.State.{working, IsWellFormed};
 ghost use Rattle.ctr_drbg.specs.Lengths.{bad_length, FitsSeed};
 ghost use Rattle.ctr_drbg.specs.Refusals.{generate_refusal};
 
 use crate::seeds::{BadSeedLength, Mode, check_string, keylen_of, seed_of, stretched, zeros};
-use crate::stream::{block_at, fill, seed_stream};
+use crate::stream::{block_at, fill_and_seed};
 use aes_core::Aes;
 use df_core::KeyLen;
 use rbg_bytes::{Fixed, xor_bytes};
@@ -138,7 +139,7 @@ impl CtrDrbg {
         state
     }
 
-    // The bytes and the state of a generate. One cipher serves the bytes and the update after them.
+    // The bytes and the state of a generate. One cipher serves the bytes and the update after them, and their blocks are encrypted together.
     fn give(&mut self, add: &[u8], out: &mut [u8])
         requires formed { IsWellFormed self.old }
         requires bound { length out.old ≤ 65536 }
@@ -151,8 +152,8 @@ impl CtrDrbg {
     {
         let seed = self.absorbed(add);
         let aes = cipher(self.key.as_slice());
-        self.v = fill(&aes, self.v, out);
-        self.update_under(&aes, seed.as_slice());
+        let bytes = fill_and_seed(&aes, self.v, self.key.as_slice().len() + 16, out);
+        self.update_by(bytes, seed.as_slice());
     }
 
     // Mixes the additional input into the state, where there is any, and gives what the last update takes.
@@ -183,20 +184,21 @@ impl CtrDrbg {
         ensures key { length self.new.key ≡ length self.old.key }
     {
         let aes = cipher(self.key.as_slice());
-        self.update_under(&aes, provided);
+        let bytes = fill_and_seed(&aes, self.v, self.key.as_slice().len() + 16, &mut []);
+        self.update_by(bytes, provided);
     }
 
-    // CTR_DRBG_Update under the cipher of the state's key.
-    fn update_under(&mut self, aes: &Aes, provided: &[u8])
+    // CTR_DRBG_Update with the encryptions of the values after some V, `bytes`, which other bytes follow.
+    fn update_by(&mut self, bytes: [u8; 64], provided: &[u8])
         requires formed { IsWellFormed self.old }
-        requires cipher { aes.now ≡ self.old.key }
         requires provided { length provided.now ≡ seed_len (length self.old.key) }
-        ensures state { working self.new ≡ update provided.now (working self.old) }
+        ensures state { (v : List ℕ) → (let n = seed_len (length self.old.key) in take n bytes ≡ take n (stream self.old.key v (blocks_for n))) →
+            working self.new ≡ update provided.now (record { key = self.old.key; value = v }) }
         ensures kept { (self.new.mode ≡ self.old.mode) × (self.new.counter ≡ self.old.counter) }
         ensures key { length self.new.key ≡ length self.old.key }
     {
         let keylen = self.key.as_slice().len();
-        let mut temp = seed_stream(aes, self.v, keylen + 16);
+        let mut temp = bytes;
         xor_bytes(&mut temp[..keylen + 16], provided);
         self.key = Fixed::of(&temp[..keylen]);
         self.v = block_at(&temp, keylen);

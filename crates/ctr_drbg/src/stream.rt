@@ -6,7 +6,7 @@ ghost use Rattle.df_core.specs.Df.{blocks_for};
 ghost use Rattle.ctr_drbg.specs.CtrDrbg.{counted, plus_one, stream};
 
 use aes_core::Aes;
-use rbg_bytes::{put_at, put_fitting};
+use rbg_bytes::{put_at, put_front};
 
 // The value after V, modulo 2^128.
 fn next(v: [u8; 16]) -> [u8; 16]
@@ -62,53 +62,64 @@ fn fill_fours(aes: &Aes, v: [u8; 16], fours: usize, out: &mut [u8]) -> [u8; 16]
     last
 }
 
-// Fills the bytes with the encryptions of V + 1, V + 2 and so on, one by one, and gives the last V.
-fn fill_ones(aes: &Aes, v: [u8; 16], out: &mut [u8]) -> [u8; 16]
-    requires { length out.old ≤ 65536 }
-    ensures bytes { out.new ≡ take (length out.old) (stream aes.now v (blocks_for (length out.old))) }
-    ensures value { result ≡ counted v (blocks_for (length out.old)) }
+// How many blocks hold so many bytes.
+fn blocks_for(n: usize) -> usize
+    requires { n ≤ 65536 }
+    ensures { result ≡ blocks_for n }
 {
-    let whole = out.len() / 16;
+    (n + 15) / 16
+}
+
+// Puts the encryptions of V + 1, V + 2 and so on in the front of the bytes, so many one by one.
+fn fill_ones(aes: &Aes, v: [u8; 16], ones: usize, out: &mut [u8])
+    requires { 16 * ones ≤ length out.old }
+    ensures { take (16 * ones) out.new ≡ stream aes.now v ones }
+{
     let mut last = v;
-    'places: for i in 0..whole {
+    'ones: for i in 0..ones {
         let value = next(last);
         put_at(out, 16 * i, &encrypted(aes, value));
         last = value;
     }
-    if 16 * whole == out.len() {
-        return last;
-    }
-    let value = next(last);
-    put_fitting(out, 16 * whole, &encrypted(aes, value));
-    value
 }
 
-// Fills the bytes with the encryptions of V + 1, V + 2 and so on, and gives the last V: four blocks at once, and the rest one
-// by one.
-pub(crate) fn fill(aes: &Aes, v: [u8; 16], out: &mut [u8]) -> [u8; 16]
-    requires { length out.old ≤ 65536 }
+// The encryptions of so many values after V, at most eight, with other bytes behind: four at once, and the rest one by one. For three it is
+// faster to encrypt four at once.
+fn row_of(aes: &Aes, v: [u8; 16], count: usize) -> [u8; 128]
+    requires { count ≤ 8 }
+    ensures row { take (16 * count) result ≡ stream aes.now v count }
+    ensures long { length result ≡ 128 }
+{
+    let mut row = [0u8; 128];
+    let fours = (count + 1) / 4;
+    let last = fill_fours(aes, v, fours, &mut row);
+    fill_ones(
+        aes,
+        last,
+        count.saturating_sub(4 * fours),
+        &mut row[64 * fours..],
+    );
+    row
+}
+
+// Fills the bytes with the encryptions of V + 1, V + 2 and so on, and gives those of the values after these, `n` bytes of them, with other
+// bytes behind. The last blocks of the one and the blocks of the other are encrypted together, four at once where there are so many.
+pub(crate) fn fill_and_seed(aes: &Aes, v: [u8; 16], n: usize, out: &mut [u8]) -> [u8; 64]
+    requires seed { n ≤ 48 }
+    requires bound { length out.old ≤ 65536 }
     ensures bytes { out.new ≡ take (length out.old) (stream aes.now v (blocks_for (length out.old))) }
-    ensures value { result ≡ counted v (blocks_for (length out.old)) }
+    ensures seed { take n result ≡ take n (stream aes.now (counted v (blocks_for (length out.old))) (blocks_for n)) }
+    ensures long { length result ≡ 64 }
 {
     let fours = out.len() / 64;
     let last = fill_fours(aes, v, fours, out);
-    fill_ones(aes, last, &mut out[64 * fours..])
-}
-
-// The encryptions of V + 1, V + 2 and so on, `n` bytes of them, with other bytes behind. For three blocks it is faster to encrypt
-// four at once.
-pub(crate) fn seed_stream(aes: &Aes, v: [u8; 16], n: usize) -> [u8; 64]
-    requires { n ≤ 48 }
-    ensures bytes { take n result ≡ take n (stream aes.now v (blocks_for n)) }
-    ensures long { length result ≡ 64 }
-{
-    let mut bytes = [0u8; 64];
-    if n <= 32 {
-        fill_ones(aes, v, &mut bytes[..n]);
-        return bytes;
-    }
-    fill_fours(aes, v, 1, &mut bytes);
-    bytes
+    let rest = out.len() - 64 * fours;
+    let before = blocks_for(rest);
+    let row = row_of(aes, last, before + blocks_for(n));
+    put_at(out, 64 * fours, &row[..rest]);
+    let mut seed = [0u8; 64];
+    put_front(&mut seed, &row[16 * before..16 * before + n]);
+    seed
 }
 
 // The block at a place.

@@ -10,12 +10,12 @@ use Rattle.frame_codec.specs.declared.decoder.Step.{Step}
 use Rattle.frame_codec.specs.declared.decoder.Step.TheVariants.{More, Whole, Bad}
 use Rattle.frame_codec.specs.Rows.{Field, Takes, digits, spelled, why_at, IsHeadPart, BeginsNoHead}
 use Rattle.frame_codec.specs.Grammar.{Grammar, text_of, IsFramed, IsFramePart, BeginsNoFrame}
-use Rattle.frame_codec.specs.Frames.{requests, request_fields, request_numbers, IsRequestHead, IsScript}
+use Rattle.frame_codec.specs.Frames.{requests, request_fields, request_numbers, IsScript}
 use Rattle.frame_codec.specs.Heads.{fields_of, numbers_of, bytes_of, IsBegun, IsWhole, HeadSteps}
 use Rattle.frame_codec.specs.Decoding.{Begun, rest_of, len_of, IsAsking, Finishes, StaysWithin, EndsFrame, LeavesFrames, Steps, Feeds, Reads}
 use Rattle.frame_codec.proofs.Grammar.{IsExact, framed-part, framed-string, framed-whole, framed-none}
 use Rattle.frame_codec.proofs.Scripts.{script-none}
-use Rattle.frame_codec.proofs.Requests.{exact, short-string, request-framed}
+use Rattle.frame_codec.proofs.Requests.{exact, short-string}
 use Rattle.frame_codec.proofs.Heads.{begun-part}
 
 -- what contracts see of a decoder
@@ -190,16 +190,6 @@ rest-none h got string table (inl b) index have = (b, rest-head h got string b.i
 rest-none h got string table (inr w) index have =
     let eight : length (fields_of h.table) ≡ 8 = ap (λ (f : List Field). length f) (asked-fields h table) in
     absurd (omega (arith, w.0.index, index, eight))
-
--- a whole head without a string, at once
-pub feed-short : (old : Begun) (h : Head) (string bytes : List ℕ) (offset : ℕ) (r : Request) → old.rest ≡ [] → 16 ≤ length bytes → IsRequestHead r → r.len ≡ 0 →
-    take 16 bytes ≡ spelled request_fields (request_numbers r) → IsBegun h → bytes_of h ≡ [] → Feeds old (take 16 bytes) 16 (Whole r) (begun h 0 string offset)
-feed-short old h string bytes offset r none long taken empty text b fresh =
-    goes-feed old (begun h 0 string offset) (take 16 bytes) 16 (Whole r) (lit< tt) (omega (arith, length-take 16 bytes, long)) (record {
-      framed = request-framed r [] taken (sym empty);
-      bytes = ap (λ (x : List ℕ). x ++ take 16 bytes) none ∙ (text ∙ sym (append-nil (spelled request_fields (request_numbers r))));
-      rest = rest-head h 0 string b.index ∙ fresh;
-    })
 
 -- a whole head at once, whose string is to come
 pub feed-head : (old : Begun) (h : Head) (string bytes : List ℕ) (offset : ℕ) (r : Request) → old.rest ≡ [] → 16 ≤ length bytes → 0 < r.len → h.table ≡ Requests → IsWhole h →

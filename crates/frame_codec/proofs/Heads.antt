@@ -1,5 +1,5 @@
 -- What one byte more makes of a head, in the words of the code.
-use Rattle.std.proofs.Common.{◌≡◌, ◌≤◌, ◌<◌, ℕ, suc, ◌+◌, ◌-◌, ◌*◌, ◌/◌, ◌%◌, ◌^◌, ◌∷◌, List, [], ◌++◌, length, take, drop, set, get_or, take_all, sym, ap, ◌∙◌, arith, length-append, append_assoc, append-nil, refl, subst, pow_mono, pow-add, lit<, take-append-drop, length-set}
+use Rattle.std.proofs.Common.{◌≡◌, ◌≤◌, ◌<◌, ℕ, suc, ◌+◌, ◌-◌, ◌*◌, ◌/◌, ◌%◌, ◌^◌, ◌∷◌, List, [], ◌++◌, length, take, drop, set, get_or, sym, ap, ◌∙◌, arith, length-append, append_assoc, append-nil, refl, subst, pow_mono, pow-add, lit<, take-append-drop, length-set}
 use Rattle.std.specs.List.{AllByRecursion}
 use Rattle.std.proofs.lemmas.List.{drop_more, take_more, take_more_set}
 use Rattle.std.proofs.lemmas.Nat.{div-mul-add, mod-mul-add, mul-add-lt}
@@ -14,7 +14,7 @@ use Rattle.frame_codec.specs.declared.table.Table.{Table}
 use Rattle.frame_codec.specs.declared.table.Table.TheVariants.{Requests, Replies}
 use Rattle.frame_codec.specs.declared.head.Head.{Head}
 use Rattle.frame_codec.specs.declared.head.HeadStep.TheVariants.{More, Whole, Bad}
-use Rattle.frame_codec.specs.Heads.{fields_of, field_at, numbers_of, bytes_of, IsBegun, IsWhole, HeadSteps}
+use Rattle.frame_codec.specs.Heads.{fields_of, field_at, numbers_of, bytes_of, IsBegun, HeadSteps}
 
 nothing : Field
 nothing = field 1 0 (λ (before : List ℕ). [])
@@ -177,19 +177,3 @@ takes-next table numbers i less long taken reach =
     let one = byte-last (f.spans (take i numbers)) n reach in
     let fits = proper-fits f.width (f.spans (take i numbers)) n ((sound-at table i less).proper (take i numbers)) one in
     rw (front-more table i less, take_more numbers i 0 long) (takes-join (take i (fields_of table)) (f ∷ []) [] (take i numbers) (n ∷ []) taken (fits, one, refl))
-
--- a head that is whole at once
-pub filled-head : (table : Table) (numbers : List ℕ) (n : ℕ) → n ≡ length (fields_of table) → n ≤ length numbers → Takes (fields_of table) [] (take (length (fields_of table)) numbers) →
-    IsWhole (record { table = table; numbers = numbers; index = n; number = 0; have = 0 })
-filled-head table numbers n count long taken =
-    let all : take n (fields_of table) ≡ fields_of table = take_all n (fields_of table) (omega (arith, count)) in
-    record {
-      head = record {
-        long = omega (arith, long, count);
-        taken = subst (λ (f : List Field). Takes f [] (take n numbers)) (sym all) (subst (λ (k : ℕ). Takes (fields_of table) [] (take k numbers)) (sym count) taken);
-        fits = lit< tt;
-      };
-      index = count;
-      have = refl;
-      number = refl;
-    }

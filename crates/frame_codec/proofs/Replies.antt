@@ -1,9 +1,7 @@
 -- The table of replies is a grammar.
-use Rattle.std.proofs.Common.{◌≡◌, ◌≤◌, ◌<◌, ◌⊎◌, inl, inr, ℕ, ◌∷◌, ◌^◌, ◌*◌, List, [], sym, arith, refl, subst, false, Bool, nat_eq, if◌then◌else◌, lit<, lit≤, pow_pos}
+use Rattle.std.proofs.Common.{◌≡◌, ◌≤◌, ◌<◌, inl, ℕ, ◌∷◌, ◌^◌, ◌*◌, List, [], arith, refl, nat_eq, if◌then◌else◌, lit<, lit≤, pow_pos}
 use Rattle.std.specs.List.{AllByRecursion}
-use Rattle.std.proofs.lemmas.Bool.{ne_eqb}
 use Rattle.frame_codec.specs.declared.table.Span.{Span}
-use Rattle.frame_codec.specs.Rows.{IsInOne}
 use Rattle.frame_codec.specs.Grammar.{text_of, IsFramed}
 use Rattle.frame_codec.specs.Frames.{IsReplyHead, from_to, zero_only, code_of, replied_op, codes_served, unless_malformed, unless_done, payloads, reply_fields, replies}
 use Rattle.frame_codec.proofs.Grammar.{IsExact, framed-free}
@@ -103,95 +101,3 @@ done-head node id len node-fits id-fits most = (
     ),
   ),
 )
-
--- the head of a Malformed reply
-pub malformed-head : (offset why : ℕ) → offset < 2 ^ 64 → why < 2 ^ 64 →
-    IsReplyHead (record { code = 255; op = 0; node = 0; id = 0; a = offset; b = why; len = 0 })
-malformed-head offset why offset-fits why-fits = (
-  lit< tt,
-  inl (lit≤ tt, lit≤ tt),
-  (
-    lit< tt,
-    inr (inr (inl (lit≤ tt, lit≤ tt))),
-    (
-      lit< tt,
-      inl (lit≤ tt, lit≤ tt),
-      (
-        lit< tt,
-        inl (lit≤ tt, lit≤ tt),
-        (
-          lit< tt,
-          inl (lit≤ tt, lit≤ tt),
-          (
-            offset-fits,
-            inl (omega arith, omega arith),
-            (
-              why-fits,
-              inl (omega arith, omega arith),
-              (lit< tt, inl (lit≤ tt, lit≤ tt), refl),
-            ),
-          ),
-        ),
-      ),
-    ),
-  ),
-)
-
--- the codes of refusals
-abbrev pub IsRefusal : ℕ → Type 0
-IsRefusal code = ((1 ≤ code) × (code ≤ 8)) ⊎ ((10 ≤ code) × (code ≤ 14))
-
-in-second : (b : Bool) (ones others : List Span) (n : ℕ) → b ≡ false → IsInOne others n → IsInOne (if b then ones else others) n
-in-second b ones others n is within = subst (λ (x : Bool). IsInOne (if x then ones else others) n) (sym is) within
-
-not-done-code : (code : ℕ) → IsRefusal code → nat_eq code 0 ≡ false
-not-done-code code (inl low) = ne_eqb code 0 (λ (e : code ≡ 0). omega arith)
-not-done-code code (inr high) = ne_eqb code 0 (λ (e : code ≡ 0). omega arith)
-
-not-malformed-code : (code : ℕ) → IsRefusal code → nat_eq code 255 ≡ false
-not-malformed-code code (inl low) = ne_eqb code 255 (λ (e : code ≡ 255). omega arith)
-not-malformed-code code (inr high) = ne_eqb code 255 (λ (e : code ≡ 255). omega arith)
-
-refusal-served : (code : ℕ) → IsRefusal code → (code < 2 ^ 8) × IsInOne codes_served code
-refusal-served code (inl low) = (omega (arith, low.1), inl (omega arith, low.1))
-refusal-served code (inr high) = (omega (arith, high.1), inr (inl high))
-
--- the head of a refusal
-pub refused-head : (code op node id a b : ℕ) → IsRefusal code → 1 ≤ op → op ≤ 6 → node < 2 ^ 8 → id < 2 ^ 32 → a < 2 ^ 64 → b < 2 ^ 64 →
-    IsReplyHead (record { code = code; op = op; node = node; id = id; a = a; b = b; len = 0 })
-refused-head code op node id a b refusal least most node-fits id-fits a-fits b-fits =
-    let done = not-done-code code refusal in
-    let malformed = not-malformed-code code refusal in
-    let served = refusal-served code refusal in (
-      lit< tt,
-      inl (lit≤ tt, lit≤ tt),
-      (
-        served.0,
-        served.1,
-        (
-          omega (arith, most),
-          in-second (nat_eq code 255) zero_only (from_to 1 6) op malformed (inl (least, most)),
-          (
-            node-fits,
-            in-second (nat_eq code 255) zero_only (from_to 0 0xff) node malformed (inl (omega arith, omega arith)),
-            (
-              id-fits,
-              in-second (nat_eq code 255) zero_only (from_to 0 0xffffffff) id malformed (inl (omega arith, omega arith)),
-              (
-                a-fits,
-                in-second (nat_eq code 0) zero_only (from_to 0 0xffffffffffffffff) a done (inl (omega arith, omega arith)),
-                (
-                  b-fits,
-                  in-second (nat_eq code 0) zero_only (from_to 0 0xffffffffffffffff) b done (inl (omega arith, omega arith)),
-                  (
-                    lit< tt,
-                    in-second (nat_eq code 0) (if nat_eq op 2 then from_to 0 65536 else if nat_eq op 6 then from_to 25 25 else zero_only) zero_only 0 done (inl (lit≤ tt, lit≤ tt)),
-                    refl,
-                  ),
-                ),
-              ),
-            ),
-          ),
-        ),
-      ),
-    )

@@ -44,9 +44,6 @@ pub record AreFirst (files : Option Entries) (file : NodePlan → Option (List �
   pub count : length seeds ≡ n
   pub each : (k : ℕ) (plan : NodePlan) → k < n → slice_get nodes k ≡ Some plan → IsSeedOf files (file plan) plan (seed_in seeds k)
 
-pub none_first : (files : Option Entries) (file : NodePlan → Option (List ℕ)) (nodes : List NodePlan) → AreFirst files file nodes 0 []
-none_first files file nodes = record { count = refl; each = λ k plan less at. absurd (omega (arith, less)) }
-
 pub one_first : (files : Option Entries) (file : NodePlan → Option (List ℕ)) (nodes : List NodePlan) (n : ℕ) (seeds : List (List ℕ)) (seed : List ℕ) (plan : NodePlan) → AreFirst files file nodes n seeds
     → slice_get nodes n ≡ Some plan → IsSeedOf files (file plan) plan seed → AreFirst files file nodes (n + 1) (seeds ++ seed ∷ [])
 one_first files file nodes n seeds seed plan first at is = record {

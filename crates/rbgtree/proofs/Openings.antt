@@ -1,6 +1,6 @@
 -- Samples that are opened one after another.
 use Rattle.std.proofs.Common.{◌≡◌, ℕ, zero, suc, ◌+◌, List, [], ◌∷◌, ◌++◌, map, take, refl, ap, ◌∙◌, subst, arith}
-use Rattle.std.specs.Prelude.{Option, Some, None, unwrap_or, Ok, Err, slice_get}
+use Rattle.std.specs.Prelude.{Option, Some, None, unwrap_or, Ok, slice_get}
 use Rattle.rbgtree.specs.Recordings.{Recording, Recordings, recording_of, OpensSamples}
 use Rattle.rbgtree.specs.Check.{OpensOne, OpensAll}
 
@@ -8,12 +8,6 @@ pub opens_one : {S : Type 0} (E : Type 0) (told : S → Option (List ℕ)) (faul
     → OpensSamples {E = E} told faults before now name (Ok samples) → OpensOne before now name (recording_of told faults samples)
 opens_one E told faults None now name samples h = h
 opens_one E told faults (Some entries) now name samples h = h
-
--- an opening that failed leaves all as it was
-pub opens_none : {S : Type 0} (E : Type 0) (told : S → Option (List ℕ)) (faults : S → ℕ) (before now : Option Recordings) (name : List ℕ) (failed : E)
-    → OpensSamples {E = E} told faults before now name (Err failed) → now ≡ before
-opens_none E told faults None now name failed h = h
-opens_none E told faults (Some entries) now name failed h = h
 
 -- one opening more
 pub opens_more : (before between next : Option Recordings) (names : List (List ℕ)) (opened : List Recording) (name : List ℕ) (one : Recording)

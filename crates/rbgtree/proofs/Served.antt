@@ -7,7 +7,7 @@ use Rattle.tree_config.specs.Tree.{Tree}
 use Rattle.tree_rules.specs.History.{Entry, Opening}
 use Rattle.tree_rules.specs.Openings.{IsHistory}
 use Rattle.tree_core.specs.Made.{samples_in}
-use Rattle.tree_core.specs.Solo.{AreLong, IsCause, OpensBy, SoloView, StandAfter}
+use Rattle.tree_core.specs.Solo.{AreLong, OpensBy, SoloView, StandAfter}
 use Rattle.tree_core.specs.declared.refusal.OpenRefusal.TheVariants as refusals
 use Rattle.tree_core.proofs.Made.{samples_count}
 use Rattle.session_core.specs.Answers.{Answered, entries_of}
@@ -15,7 +15,7 @@ use Rattle.session_core.specs.Session.{AreMade, HasReadCause, HasWriteCause, IsH
 use Rattle.session_core.proofs.Weaker.{held-weaker}
 use Rattle.rbgtree.specs.Files.{Entries}
 use Rattle.rbgtree.specs.Recordings.{Recording, Recordings, recording_of}
-use Rattle.rbgtree.specs.Check.{HasNoPlan, HasOpenCause, HasPlanCause, OpensAll, sample_names, status_without}
+use Rattle.rbgtree.specs.Check.{HasNoPlan, HasPlanCause, OpensAll, sample_names, status_without}
 use Rattle.rbgtree.specs.Trees.{EndedOver, HasNoTree, IsShort, OpensTree}
 use Rattle.rbgtree.specs.Run.{AreServed, Outside, HasStatusCause, IsUntouched, RanOver, Served}
 use Rattle.rbgtree.specs.Statuses.{status_of}
@@ -123,10 +123,6 @@ pub ended_without : {S : Type 0} (told : S → Option (List ℕ)) (faults : S �
 ended_without told faults p seeds before now Idle Did Fault count idle long none = (idle, long, none)
 ended_without told faults p seeds before now Idle Did OutOfMemory count idle long none = (idle, none)
 
--- seeds that are long enough are none that are too short
-pub not_short : (p : Tree) (seeds : List (List ℕ)) (node have need : ℕ) → AreLong p seeds (length p.nodes) → IsCause p seeds (refusals.SeedShort node have need) → ⊥
-not_short p seeds node have need long (less, short, before) = let none = long node less in absurd cc
-
 pub cause_served : (before now : Outside) (end : End) → now.world ≡ before.world → HasReadCause before.input now.input end → HasWriteCause before.output now.output end →
     HasStatusCause before now (status_of end)
 cause_served before now (Read frames) world read write = record { world = world; input = read; output = write }
@@ -135,28 +131,6 @@ cause_served before now (Cut offset) world read write = record { world = world; 
 cause_served before now (ReadFault count) world read write = (read.0, read.1, world, write)
 cause_served before now (WriteFault count) world read write = (write.0, write.1, world, read)
 cause_served before now (Quota frames) world read write = record { world = world; input = read; output = write }
-
-pub cause_without : (T : Type 0) (before now : Outside) (why : NotOpened) → HasOpenCause {T = T} before.world now.world (Err why) → now.input ≡ before.input → now.output ≡ before.output
-    → HasStatusCause before now (status_without why now.world)
-cause_without T before now Fault cause input output = (cause, refl, input, output)
-cause_without T before now OutOfMemory cause input output = record { world = cause; input = input; output = output }
-
-pub cause_short : (p : Tree) (seeds : List (List ℕ)) (before now : Outside) (status : Status) → IsShort p seeds status → now.world ≡ before.world → now.input ≡ before.input → now.output ≡ before.output
-    → HasStatusCause before now status
-cause_short p seeds before now (statuses.SeedShort node have need) short world input output = record { world = world; input = input; output = output }
-cause_short p seeds before now statuses.Done short world input output = absurd short
-cause_short p seeds before now statuses.Usage short world input output = absurd short
-cause_short p seeds before now (statuses.Config fault) short world input output = absurd short
-cause_short p seeds before now (statuses.Malformed offset why) short world input output = absurd short
-cause_short p seeds before now (statuses.Cut offset) short world input output = absurd short
-cause_short p seeds before now (statuses.Text line fault) short world input output = absurd short
-cause_short p seeds before now (statuses.Differs differed) short world input output = absurd short
-cause_short p seeds before now (statuses.ReadFault count) short world input output = absurd short
-cause_short p seeds before now (statuses.WriteFault count) short world input output = absurd short
-cause_short p seeds before now (statuses.OpenFault count) short world input output = absurd short
-cause_short p seeds before now statuses.Memory short world input output = absurd short
-cause_short p seeds before now (statuses.Quota frames) short world input output = absurd short
-cause_short p seeds before now (statuses.SourceRefused source) short world input output = absurd short
 
 -- the outside before a step that left what it tells as it was
 abbrev outside : Option Entries → Option Recordings → Option (List ℕ) → Option (List ℕ) → ℕ → ℕ → ℕ → Outside

@@ -59,7 +59,7 @@ pub record AreServed {S : Type 0} (faults : S → ℕ) (reads : S → ℕ → Op
   pub made : AreAllReads faults reads f.plan samples after (acts_of (entries_of es))
 
 -- A tree of the plan was opened over these seeds and over the samples that the plan names, and one session of at most 1,048,576 frames
--- was held on it. Its replies are those of entries by caller 1, one for each frame that was read, in order, which behind the opening calls
+-- was held on it. Its replies are those of entries by caller 1, one for each frame that was answered, in order, which behind the opening calls
 -- make a legal history, use no sample twice and are quiet after alarms. The reads among the acts of the opening calls, and then of these
 -- entries, are exactly those that were made of the samples that were opened.
 pub record Served {S : Type 0} (told : S → Option (List ℕ)) (faults : S → ℕ) (reads : S → ℕ → Option (List ℕ) → S → Type 0) (p : Tree) (seeds : List (List ℕ)) (before now : Outside)

@@ -210,9 +210,6 @@ short true false false n (inr none) = absurd none
 short false b c n (inl fits) = omega (arith, fits.1)
 short false b c n (inr none) = absurd none
 
-pub short_payload : (h : ReplyHead) → IsReplyHead h → h.len ≤ 65536
-short_payload h takes = short (nat_eq h.code 0) (nat_eq h.op 2) (nat_eq h.op 6) h.len takes.2.2.2.2.2.2.2.1
-
 -- the frame in a buffer: its head ends at place 32, and the payload stands behind it
 pub frame_at : (h : ReplyHead) (old new : List ℕ) (end : ℕ) → IsReplyHead h → 32 ≤ length old → take 32 new ≡ take 4 old ++ spelled reply_fields (reply_numbers h)
     → drop 32 new ≡ drop 32 old → end ≡ 32 + h.len → take (end - 4) (drop 4 new) ≡ text_of replies (record { head = h; string = take h.len (drop 32 old) })

@@ -1,6 +1,6 @@
 -- The replies to requests in a row, and to one request more.
-use Rattle.std.proofs.Common.{◌≡◌, ◌∷◌, ◌∙◌, List, [], ◌++◌, length, sym, ap, subst, append_assoc}
-use Rattle.std.proofs.lemmas.List.{length-map, map-append}
+use Rattle.std.proofs.Common.{◌≡◌, ◌∷◌, ◌∙◌, List, [], ◌++◌, sym, ap, subst, append_assoc}
+use Rattle.std.proofs.lemmas.List.{map-append}
 use Rattle.std.specs.List.{AllByRecursion}
 use Rattle.frame_codec.specs.Grammar.{text_of}
 use Rattle.frame_codec.specs.Frames.{replies}
@@ -20,9 +20,6 @@ asked-push es e = map-append (λ (e : Answered). e.asked) es (e ∷ [])
 
 pub entries-push : (es : List Answered) (e : Answered) → entries_of (es ++ e ∷ []) ≡ entries_of es ++ e.entry ∷ []
 entries-push es e = map-append (λ (e : Answered). e.entry) es (e ∷ [])
-
-pub length-asked : (es : List Answered) → length (asked_of es) ≡ length es
-length-asked es = length-map es (λ (e : Answered). e.asked)
 
 pub written-push : (es : List Answered) (e : Answered) → written service (es ++ e ∷ []) ≡ written service es ++ text_of replies (reply_to e.asked.head e.entry)
 written-push es e = flat-push service.text es e

@@ -12,10 +12,10 @@ use Rattle.tree_core.specs.Made.{samples_in}
 use Rattle.tree_core.specs.Solo.{SoloView, StandAfter}
 use Rattle.tree_core.proofs.Made.{reads_none, samples_count}
 use Rattle.session_core.specs.declared.end.End.{End}
-use Rattle.session_core.specs.declared.end.End.TheVariants.{Read, Bad, Cut, ReadFault, WriteFault, Quota}
+use Rattle.session_core.specs.declared.end.End.TheVariants.{Read, Cut, ReadFault}
 use Rattle.session_core.specs.Ends.{Ends, written}
 use Rattle.session_core.specs.Answers.{Answered, asked_of, service}
-use Rattle.session_core.specs.Session.{AreMade, Began, Moment, IsReady, Stands, Stops, IsHeld, HasReadCause, IsPieceEnd}
+use Rattle.session_core.specs.Session.{AreMade, Began, Moment, IsReady, Stands, Stops, IsHeld}
 use Rattle.session_core.proofs.Replies.{right}
 
 -- what stands between two reads: the bytes that were taken from the source, and what the session has come to by them
@@ -161,12 +161,3 @@ module _ {S : Type 0} (told : S → Option (List ℕ)) (faults : S → ℕ) (rea
       stops.1,
       subst (λ (x : List ℕ). Ends service (AreMade told faults reads b.f b.o b.h b.samples b.calls t) b.max end x left_now stops.0) (append-nil (h.taken ++ piece)) (stops.2 [] left_now),
     )
-
--- an end that a piece brings is no fault of the source
-pub piece-cause : (end : End) (before now : ℕ) → IsPieceEnd end → now ≡ before → HasReadCause before now end
-piece-cause (Bad offset why) before now kind same = same
-piece-cause (WriteFault count) before now kind same = same
-piece-cause (Quota frames) before now kind same = same
-piece-cause (Read frames) before now kind same = absurd kind
-piece-cause (Cut offset) before now kind same = absurd kind
-piece-cause (ReadFault count) before now kind same = absurd kind

@@ -134,8 +134,8 @@ fn take_piece<S: Samples, O: ByteSink>(
 
 /// Answers the frames of a source from a tree, each before the next is decoded, at most as many as the buffers allow, and says how that
 /// ended. A read asks for 65,536 bytes; each reply is one write. No memory is taken. What the tree made of it stands in the table of ends:
-/// the replies are those of entries, one for each frame that was read, in order, with which the tree's history goes on; and the reads of
-/// the sources that stand in all of them are exactly those that were made, also where samples tell nothing.
+/// the replies are those of entries, one for each frame that was answered, in order, with which the tree's history goes on; and the reads
+/// of the sources that stand in all of them are exactly those that were made, also where samples tell nothing.
 pub fn session_solo<S: Samples, I: ByteSource, O: ByteSink>(
     buffers: &mut Session,
     tree: &mut SoloTree<S>,

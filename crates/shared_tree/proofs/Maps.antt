@@ -1,5 +1,5 @@
 -- What is held, and what isn't.
-use Rattle.std.proofs.Common.{◌≡◌, refl, sym, subst, inl, inr, ⊎_elim, true≢false, ◌⊎◌}
+use Rattle.std.proofs.Common.{◌≡◌, refl, sym, subst, inl, inr, true≢false, ◌⊎◌}
 use Rattle.std.specs.Prelude.{Option, Some, None, IsSome}
 
 pub some_or : {A : Type 0} (o : Option A) → (o ≡ None) ⊎ ((x : A) × (o ≡ Some x))
@@ -15,6 +15,3 @@ is_some_of {A} o x e = subst (λ (z : Option A). IsSome z) (sym e) refl
 pub none_of : {A : Type 0} (o : Option A) → (IsSome o → ⊥) → o ≡ None
 none_of None no_one = refl
 none_of (Some x) no_one = absurd (no_one refl)
-
-pub other_of : {A B : Type 0} (o : Option A) (q : Option B) → (IsSome o ⊎ IsSome q) → (IsSome o → ⊥) → IsSome q
-other_of o q is no_one = ⊎_elim (λ x. absurd (no_one x)) (λ x. x) is

@@ -71,9 +71,6 @@ module _ {S : Type 0} (told : S → Option (List ℕ)) (faults : S → ℕ) wher
     counted = ca.counted;
   }
 
-pub stay_without : (k : ℕ) (v u : View) → Stays v u → (HasTurn v k → ⊥) → HasTurn u k → ⊥
-stay_without k v u a none t = none (t.0, t.1, subst (λ (ls : List Lease). get_elem? ls t.0 ≡ some t.1) a.leases_are t.2, t.3)
-
 pub reaches_later : (k : ℕ) (v u w : View) → Stays v u → Reaches k u w → Reaches k v w
 reaches_later k v u w a r = record {
   begins = begins_on v.seen u.seen w.seen a.begins r.begins;

@@ -10,6 +10,8 @@ use std::marker::Model;
 #[derive(Drop)]
 pub struct Boxed<T> {
     inner: Box<T>,
+    // Keeps the values of two slots in lines of their own of a processor's cache.
+    apart: [u64; 7],
 }
 
 impl<T> Model for Boxed<T> {
@@ -40,7 +42,7 @@ impl<T> Boxed<T> {
     pub fn into_inner(self) -> T
         ensures { result ≡ self }
     {
-        let Boxed { inner } = self;
+        let Boxed { inner, apart: _ } = self;
         Box::into_inner(inner)
     }
 }
@@ -52,6 +54,7 @@ impl<T: Drop> Boxed<T> {
     {
         Ok(Boxed {
             inner: Box::new(alloc, value)?,
+            apart: [0; 7],
         })
     }
 }

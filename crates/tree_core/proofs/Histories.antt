@@ -26,7 +26,7 @@ use Rattle.tree_core.specs.Made.{AreReads, samples_in}
 use Rattle.tree_core.specs.Reasons.{HasReason}
 use Rattle.tree_core.specs.Solo.{GoesOn, StandIn, StandAfter}
 use Rattle.tree_core.specs.Whole.{AreOfPlan, all_held, source_behind, states_of}
-use Rattle.tree_core.proofs.Made.{acts_more, reads_held, reads_none, reads_on, samples_count}
+use Rattle.tree_core.proofs.Made.{acts_more, reads_held, reads_on, samples_count}
 use Rattle.tree_core.proofs.Wholes.{behind_at, chain_held}
 
 module _ {S : Type 0} (told : S → Option (List ℕ)) (faults : S → ℕ) (p : Tree) where
@@ -159,15 +159,3 @@ module _ {S : Type 0} (told : S → Option (List ℕ)) (faults : S → ℕ) (rea
   one_opened_of p is calls by are now c reply bytes served =
       one_opened_more calls by (subst (λ p. AreOfPlan p nodes sources) (sym is) are) (subst (λ p. AreOfPlan p ns ss) (sym is) now) c reply bytes
       (subst (λ p. ServedBy told faults reads p (all_held nodes sources) (all_held ns ss) c [] reply bytes) (sym is) served)
-
-pub none_opened : {S : Type 0} (told : S → Option (List ℕ)) (faults : S → ℕ) (reads : S → ℕ → Option (List ℕ) → S → Type 0) (f : Opening) (nodes : List NodeView) (sources : List (SourceView S))
-    → StandIn told faults f.plan (opened f) nodes sources → OpenedBy told faults reads f (samples_in sources) [] nodes sources
-none_opened told faults reads f nodes sources stand = record {
-  o = [];
-  calls_are = refl;
-  callers_are = refl;
-  strings_are = refl;
-  legal = tt;
-  stand = stand;
-  made = reads_none reads faults f.plan (samples_in sources);
-}

@@ -1,12 +1,12 @@
 -- What stands at the slots of a tree: a node's or a source's value, as the plan has it, for the state that a history leaves.
 -- This project's own.
-use Rattle.std.specs.Prelude.{◌≡◌, ◌<◌, ◌≤◌, ℕ, ◌-◌, List, [], length, map, slice_get, Option, Some}
+use Rattle.std.specs.Prelude.{◌≡◌, ◌<◌, ◌≤◌, ℕ, ◌-◌, List, length, map, slice_get, Option, Some}
 use Rattle.tree_config.specs.Tree.{Tree}
 use Rattle.entropy_source.specs.Views.{SourceView, source_state}
 use Rattle.rbg_nodes.specs.Views.{NodeView}
 use Rattle.tree_rules.specs.Slots.{node_row, source_row, source_slot}
 use Rattle.tree_rules.specs.History.{Entry, Opening, SlotState, States, NodeIs, SourceIs}
-use Rattle.tree_rules.specs.Openings.{IsOpening, states_behind}
+use Rattle.tree_rules.specs.Openings.{states_behind}
 use Rattle.tree_rules.specs.Table.{Tells}
 
 -- a node is the plan's at a slot, and a source
@@ -61,13 +61,3 @@ pub record StandIn {S : Type 0} (told : S → Option (List ℕ)) (faults : S →
 -- they stand after these entries behind the opening calls
 abbrev pub StandAfter : {S : Type 0} → (S → Option (List ℕ)) → (S → ℕ) → Opening → List Entry → List Entry → List NodeView → List (SourceView S) → Type 0
 StandAfter told faults f o h nodes sources = StandIn told faults f.plan (states_behind f o h) nodes sources
-
--- a tree in parts, as it was opened over a plan, samples and seeds
-pub record OpensAs {S : Type 0} (told : S → Option (List ℕ)) (faults : S → ℕ) (p : Tree) (samples : List S) (seeds : List (List ℕ))
-    (plan : Tree) (nodes : List NodeView) (sources : List (SourceView S)) : Type 0 where
-  pub f : Opening
-  pub o : List Entry
-  pub plan_is : plan ≡ p
-  pub given : IsGiven told faults p samples seeds f
-  pub is_opening : IsOpening f o
-  pub stand : StandAfter told faults f o [] nodes sources

@@ -1,5 +1,5 @@
 -- A commit keeps the rule of the turns.
-use Rattle.std.proofs.Common.{◌≡◌, ℕ, zero, suc, ◌+◌, ◌-◌, ◌%◌, ◌^◌, ◌<◌, ◌≤◌, ◌≢◌, ◌⊎◌, inl, inr, ⊎_elim, List, [], ◌∷◌, ◌++◌, map, length, length-append, get_or, set, sym, refl, ap, ◌∙◌, subst, arith, length-set, get_or-set_other, get_or-set_same, eq-eqb, Bool, true, false, append_assoc}
+use Rattle.std.proofs.Common.{◌≡◌, ℕ, zero, suc, ◌+◌, ◌*◌, ◌-◌, ◌%◌, ◌^◌, ◌<◌, ◌≤◌, ◌≢◌, ◌⊎◌, inl, inr, ⊎_elim, List, [], ◌∷◌, ◌++◌, map, length, length-append, get_or, set, sym, refl, ap, ◌∙◌, subst, arith, length-set, get_or-set_other, get_or-set_same, eq-eqb, Bool, true, false, append_assoc}
 use mathlib.Core.Logic.{dite}
 use mathlib.Core.Option.{none, some, some-injective, some-ne-none}
 use native.Mathlib.Decide.{ℕ_discrete}
@@ -49,7 +49,7 @@ ended_else v i x n live at is own = let a = ap (times (suc n)) (numbers_live v l
 begins_more : (xs ys : List Entry) (e : Entry) → Begins xs ys → Begins xs (ys ++ e ∷ [])
 begins_more xs ys e b = (b.0 ++ e ∷ [], ap (λ (l : List Entry). l ++ e ∷ []) b.1 ∙ append_assoc xs b.0 (e ∷ []))
 
-next_of : (k : ℕ) → suc (1 + k) ≡ 2 + k
+next_of : (k : ℕ) → suc (7 + 8 * k) ≡ 8 + 8 * k
 next_of k = omega arith
 
 module _ {S : Type 0} (M : Meaning S)
@@ -88,8 +88,8 @@ module _ {S : Type 0} (M : Meaning S)
     others_stay : (j : ℕ) (u : View) → j ≢ id → get_elem? s.views j ≡ some u → u.live ≡ true → (i : ℕ) (t : Lease) → get_elem? u.leases i ≡ some t → stated o log' t.slot ≡ stated o r.history t.slot
     others_stay j u ne a l i t b = ⊎_elim
         (λ (h : HasTurn v t.slot). let p = (r.knows j u a l).leases i t b in let q = known.leases h.0 h.1 h.2 in
-        let one : get_or s.words (2 + t.slot) 0 ≡ turn_word t.target u.number = p.word in
-        let two : get_or s.words (2 + t.slot) 0 ≡ turn_word h.1.target v.number = ap (λ (z : ℕ). get_or s.words (2 + z) 0) (sym h.3) ∙ q.word in
+        let one : get_or s.words (8 + 8 * t.slot) 0 ≡ turn_word t.target u.number = p.word in
+        let two : get_or s.words (8 + 8 * t.slot) 0 ≡ turn_word h.1.target v.number = ap (λ (z : ℕ). get_or s.words (8 + 8 * z) 0) (sym h.3) ∙ q.word in
         let c = p.target in let d = q.target in let same : u.number ≡ suc number = omega arith in
         absurd (ne (apart M s r j id u v number a at l live same own)))
         (λ h. h) (touched_or t.slot)
@@ -101,7 +101,7 @@ module _ {S : Type 0} (M : Meaning S)
     held_stays x n t h same = record {
       inside = h.inside;
       target = h.target;
-      word = subst (λ (z : ℕ). get_or (set s.words 0 x) z 0 ≡ turn_word t.target n) (next_of t.slot) (words_stay x (1 + t.slot) ∙ (ap (λ (z : ℕ). get_or s.words z 0) (next_of t.slot) ∙ h.word));
+      word = subst (λ (z : ℕ). get_or (set s.words 0 x) z 0 ≡ turn_word t.target n) (next_of t.slot) (words_stay x (7 + 8 * t.slot) ∙ (ap (λ (z : ℕ). get_or s.words z 0) (next_of t.slot) ∙ h.word));
       state_is = h.state_is ∙ sym same;
       on_path = h.on_path;
       home = h.home;
@@ -127,7 +127,7 @@ module _ {S : Type 0} (M : Meaning S)
           subst (IsLeased M o log' (set s.words 0 x) s.homes v.number) b.2 record {
             inside = h.inside;
             target = h.target;
-            word = subst (λ (z : ℕ). get_or (set s.words 0 x) z 0 ≡ turn_word b.0.target v.number) (next_of b.0.slot) (words_stay x (1 + b.0.slot) ∙ (ap (λ (z : ℕ). get_or s.words z 0) (next_of b.0.slot) ∙ h.word));
+            word = subst (λ (z : ℕ). get_or (set s.words 0 x) z 0 ≡ turn_word b.0.target v.number) (next_of b.0.slot) (words_stay x (7 + 8 * b.0.slot) ∙ (ap (λ (z : ℕ). get_or s.words z 0) (next_of b.0.slot) ∙ h.word));
             state_is = (λ i. M.after (kn.opening_is i) b.0.slot (h.state_is i) e) ∙ sym (states_snoc (M.after o) (M.start o) r.history e b.0.slot);
             on_path = h.on_path;
             home = h.home;
@@ -181,12 +181,12 @@ module _ {S : Type 0} (M : Meaning S)
       knows = λ j u a l. ⊎_elim (λ (t : (j ≡ id) × (w ≡ u)). subst (K' x) t.1 (own_knows x)) (λ (t : (j ≢ id) × (get_elem? s.views j ≡ some u)). other_knows x j u t.0 t.1 l) (at_set s.views id j w u a);
       turns = λ k h. ⊎_elim
           (λ (f : IsFree M o r.history s.words s.homes k). inl (
-            subst (λ (z : ℕ). get_or (set s.words 0 x) z 0 ≡ 0) (next_of k) (words_stay x (1 + k) ∙ (ap (λ (z : ℕ). get_or s.words z 0) (next_of k) ∙ f.0)),
+            subst (λ (z : ℕ). get_or (set s.words 0 x) z 0 ≡ 0) (next_of k) (words_stay x (7 + 8 * k) ∙ (ap (λ (z : ℕ). get_or s.words z 0) (next_of k) ∙ f.0)),
             (
               f.1.0,
               f.1.1,
-              ⊎_elim (λ (h : HasTurn v k). let q : get_or s.words (2 + h.1.slot) 0 ≡ turn_word h.1.target v.number = (known.leases h.0 h.1 h.2).word in
-                  let z : get_or s.words (2 + h.1.slot) 0 ≡ 0 = ap (λ (z : ℕ). get_or s.words (2 + z) 0) h.3 ∙ f.0 in absurd (omega arith))
+              ⊎_elim (λ (h : HasTurn v k). let q : get_or s.words (8 + 8 * h.1.slot) 0 ≡ turn_word h.1.target v.number = (known.leases h.0 h.1 h.2).word in
+                  let z : get_or s.words (8 + 8 * h.1.slot) 0 ≡ 0 = ap (λ (z : ℕ). get_or s.words (8 + 8 * z) 0) h.3 ∙ f.0 in absurd (omega arith))
                   (λ same. subst (M.stands f.1.0) (sym same) f.1.2) (touched_or k),
             ),
           ))

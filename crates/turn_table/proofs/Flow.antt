@@ -153,18 +153,6 @@ module _ (t : TableId) (callers slot amount value : ℕ) (p q : Standing) (has :
     number_is = ap (λ (z : View). z.number) all;
   }
 
--- a call that took the turn itself
-pub adds_from : (slot amount x : ℕ) (v w u : View) → Goes v w → Adds slot amount x w u → Adds slot amount x v u
-adds_from slot amount x v w u g a = record {
-  history = a.history;
-  begins = begins_on v.seen w.seen a.history g.begins a.begins;
-  seen_is = a.seen_is ∙ ap (λ (n : ℕ). a.history ++ sum_entry n slot amount ∷ []) g.number_is;
-  legal = a.legal;
-  value = a.value;
-  mine_is = a.mine_is ∙ (λ i. g.mine_is i ++ sum_entry (g.number_is i) slot amount ∷ []);
-  number_is = a.number_is ∙ g.number_is;
-}
-
 -- counters at 0
 at_zeros : (n k : ℕ) → k < length {A = ℕ} (replicate n 0) → get_elem? (replicate {A = ℕ} n 0) k ≡ some 0
 at_zeros zero k inside = absurd (omega arith)

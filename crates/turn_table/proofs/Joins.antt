@@ -1,5 +1,5 @@
 -- A number is drawn, a view is cut in two, and two views become one.
-use Rattle.std.proofs.Common.{◌≡◌, ℕ, zero, suc, ◌+◌, ◌-◌, ◌%◌, ◌^◌, ◌<◌, ◌≤◌, ◌≢◌, ◌⊎◌, inl, inr, ⊎_elim, List, [], ◌∷◌, ◌++◌, map, length, length-append, get_or, set, sym, refl, ap, ◌∙◌, subst, arith, length-set, get_or-set_other, get_or-set_same, eq-eqb, ne_eqb, Bool, true, false, true≢false, nat_lt}
+use Rattle.std.proofs.Common.{◌≡◌, ℕ, zero, suc, ◌+◌, ◌*◌, ◌-◌, ◌%◌, ◌^◌, ◌<◌, ◌≤◌, ◌≢◌, ◌⊎◌, inl, inr, ⊎_elim, List, [], ◌∷◌, ◌++◌, map, length, length-append, get_or, set, sym, refl, ap, ◌∙◌, subst, arith, length-set, get_or-set_other, get_or-set_same, eq-eqb, ne_eqb, Bool, true, false, true≢false, nat_lt}
 use Rattle.std.proofs.lemmas.List.{map-append}
 use mathlib.Core.Logic.{dite}
 use native.Mathlib.Decide.{ℕ_discrete}
@@ -120,7 +120,7 @@ module _ {S : Type 0} (M : Meaning S) (values : ℕ × List (Option S)) where
       let wide = r.wide in
       let w0 : get_or (set s.words 1 (suc n)) 0 0 ≡ get_or s.words 0 0 = get_or-set_other s.words 1 0 (suc n) 0 (λ e. omega arith) in
       let w1 : get_or (set s.words 1 (suc n)) 1 0 ≡ suc n = get_or-set_same s.words 1 (suc n) 0 (omega arith) in
-      let turn : (k : ℕ) → get_or (set s.words 1 (suc n)) (2 + k) 0 ≡ get_or s.words (2 + k) 0 = λ k. get_or-set_other s.words 1 (2 + k) (suc n) 0 (λ e. omega arith) in
+      let turn : (k : ℕ) → get_or (set s.words 1 (suc n)) (8 + 8 * k) 0 ≡ get_or s.words (8 + 8 * k) 0 = λ k. get_or-set_other s.words 1 (8 + 8 * k) (suc n) 0 (λ e. omega arith) in
       let nums_v : numbers v ≡ map number_of_ended v.ended = numbers_live v live ∙ ap (λ (z : ℕ). own_number z ++ map number_of_ended v.ended) zero_number in
       let nums_w : numbers w ≡ suc n ∷ map number_of_ended v.ended = numbers_live w live in
       let nothing = kn.unnumbered zero_number in

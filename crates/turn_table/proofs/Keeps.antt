@@ -1,5 +1,5 @@
 -- A step that changes one view alone, or one view and the turn of one slot, keeps the rule of turns.
-use Rattle.std.proofs.Common.{◌≡◌, ℕ, suc, ◌+◌, ◌<◌, ◌≤◌, ◌≢◌, ◌⊎◌, inl, inr, ⊎_elim, List, [], length, get_or, set, sym, ap, ◌∙◌, subst, arith, length-set, get_or-set_other, true, false}
+use Rattle.std.proofs.Common.{◌≡◌, ℕ, suc, ◌+◌, ◌*◌, ◌<◌, ◌≤◌, ◌≢◌, ◌⊎◌, inl, inr, ⊎_elim, List, [], length, get_or, set, sym, ap, ◌∙◌, subst, arith, length-set, get_or-set_other, true, false}
 use mathlib.Core.Logic.{dite}
 use mathlib.Core.Option as known
 use mathlib.Core.Option.{some, some-injective}
@@ -89,18 +89,18 @@ module _ {S : Type 0} (M : Meaning S) where
   Others s r id k = (j : ℕ) (u : View) → j ≢ id → get_elem? s.views j ≡ some u → u.live ≡ true → (i : ℕ) (t : Lease) → get_elem? u.leases i ≡ some t → t.slot ≢ k
 
   pub held_else : (o : List ℕ) (history : List Entry) (words : List ℕ) (homes : Homes S) (n : ℕ) (t : Lease) (k x : ℕ) (h : known.Option (Option S)) → IsLeased M o history words homes n t → t.slot ≢ k
-      → IsLeased M o history (set words (2 + k) x) (set homes k h) n t
+      → IsLeased M o history (set words (8 + 8 * k) x) (set homes k h) n t
   held_else o history words homes n t k x h a ne = record {
     inside = subst (λ (z : ℕ). t.slot < z) (sym (length-set homes k h)) a.inside;
     target = a.target;
-    word = get_or-set_other words (2 + k) (2 + t.slot) x 0 (λ e. ne (omega arith)) ∙ a.word;
+    word = get_or-set_other words (8 + 8 * k) (8 + 8 * t.slot) x 0 (λ e. ne (omega arith)) ∙ a.word;
     state_is = a.state_is;
     on_path = a.on_path;
     home = λ o. set_else homes k t.slot h ne ∙ a.home o;
   }
 
   pub knows_else : (s : St) (r : Rule s) (u : View) (k x : ℕ) (h : known.Option (Option S)) → K s r u → ((i : ℕ) (t : Lease) → get_elem? u.leases i ≡ some t → t.slot ≢ k)
-      → Knows M r.opening r.callers r.history (set s.words (2 + k) x) (set s.homes k h) u
+      → Knows M r.opening r.callers r.history (set s.words (8 + 8 * k) x) (set s.homes k h) u
   knows_else s r u k x h a ne = record {
     old = a.old;
     opening_is = a.opening_is;
@@ -124,32 +124,32 @@ module _ {S : Type 0} (M : Meaning S) where
       (λ other. (t.0, t.1, t.2, t.3, set_else vs id t.0 w other ∙ t.4, t.5, t.6, t.7))
 
   pub retold : (s : St) (r : Rule s) (id k x : ℕ) (h : known.Option (Option S)) (v w : View) → get_elem? s.views id ≡ some v → w.live ≡ true → Others s r id k
-      → Knows M r.opening r.callers r.history (set s.words (2 + k) x) (set s.homes k h) w
+      → Knows M r.opening r.callers r.history (set s.words (8 + 8 * k) x) (set s.homes k h) w
       → Relisted_but k v w
-      → (IsFree M r.opening r.history (set s.words (2 + k) x) (set s.homes k h) k ⊎ IsListed (set s.views id w) k)
+      → (IsFree M r.opening r.history (set s.words (8 + 8 * k) x) (set s.homes k h) k ⊎ IsListed (set s.views id w) k)
       → (v.seen ≡ r.history → w.seen ≡ r.history) → numbers w ≡ numbers v → undrawn w ≡ undrawn v → made w ≡ made v
-      → Rule record { words = set s.words (2 + k) x; homes = set s.homes k h; views = set s.views id w }
-  retold s r id k x h v w at live others knows list here on nums und mades = let w0 : get_or (set s.words (2 + k) x) 0 0 ≡ get_or s.words 0 0 = get_or-set_other s.words (2 + k) 0 x 0 (λ e. omega arith) in
-      let w1 : get_or (set s.words (2 + k) x) 1 0 ≡ get_or s.words 1 0 = get_or-set_other s.words (2 + k) 1 x 0 (λ e. omega arith) in record {
+      → Rule record { words = set s.words (8 + 8 * k) x; homes = set s.homes k h; views = set s.views id w }
+  retold s r id k x h v w at live others knows list here on nums und mades = let w0 : get_or (set s.words (8 + 8 * k) x) 0 0 ≡ get_or s.words 0 0 = get_or-set_other s.words (8 + 8 * k) 0 x 0 (λ e. omega arith) in
+      let w1 : get_or (set s.words (8 + 8 * k) x) 1 0 ≡ get_or s.words 1 0 = get_or-set_other s.words (8 + 8 * k) 1 x 0 (λ e. omega arith) in record {
         opening = r.opening;
         callers = r.callers;
         history = r.history;
         legal = r.legal;
         few = r.few;
-        wide = length-set s.words (2 + k) x ∙ (r.wide ∙ ap (λ (n : ℕ). 2 + n) (sym (length-set s.homes k h)));
+        wide = length-set s.words (8 + 8 * k) x ∙ (r.wide ∙ ap (λ (n : ℕ). 8 + 8 * n) (sym (length-set s.homes k h)));
         counted = w0 ∙ r.counted;
         opened = λ j u e. ⊎_elim (λ (t : (j ≡ id) × (w ≡ u)). subst (λ (z : View). z.fresh ≡ false) t.1 knows.old) (λ (t : (j ≢ id) × (get_elem? s.views j ≡ some u)). r.opened j u t.1) (at_set s.views id j w u e);
-        knows = λ j u e l. ⊎_elim (λ (t : (j ≡ id) × (w ≡ u)). subst (Knows M r.opening r.callers r.history (set s.words (2 + k) x) (set s.homes k h)) t.1 knows)
+        knows = λ j u e l. ⊎_elim (λ (t : (j ≡ id) × (w ≡ u)). subst (Knows M r.opening r.callers r.history (set s.words (8 + 8 * k) x) (set s.homes k h)) t.1 knows)
             (λ (t : (j ≢ id) × (get_elem? s.views j ≡ some u)). knows_else s r u k x h (r.knows j u t.1 l) (others j u t.0 t.1 l)) (at_set s.views id j w u e);
         turns = λ k' i. dite (ℕ_discrete k' k)
-            (λ e. subst (λ (z : ℕ). IsFree M r.opening r.history (set s.words (2 + k) x) (set s.homes k h) z ⊎ IsListed (set s.views id w) z) (sym e) here)
-            (λ ne. ⊎_elim (λ (f : IsFree M r.opening r.history s.words s.homes k'). inl (get_or-set_other s.words (2 + k) (2 + k') x 0 (λ e. ne (omega arith)) ∙ f.0, (f.1.0, set_else s.homes k k' h ne ∙ f.1.1, f.1.2)))
+            (λ e. subst (λ (z : ℕ). IsFree M r.opening r.history (set s.words (8 + 8 * k) x) (set s.homes k h) z ⊎ IsListed (set s.views id w) z) (sym e) here)
+            (λ ne. ⊎_elim (λ (f : IsFree M r.opening r.history s.words s.homes k'). inl (get_or-set_other s.words (8 + 8 * k) (8 + 8 * k') x 0 (λ e. ne (omega arith)) ∙ f.0, (f.1.0, set_else s.homes k k' h ne ∙ f.1.1, f.1.2)))
             (λ t. inr (taken_else s.views id k v w at live list k' ne t)) (r.turns k' (subst (λ (n : ℕ). k' < n) (length-set s.homes k h) i)));
         drawn = λ i e a. let d = r.drawn i e a in (d.0, subst (λ (n : ℕ). caller_of e ≤ n) (sym w1) d.1);
         bounded = r.bounded;
         once = λ n. same_total (λ u. times n (numbers u)) s.views id v w at (ap (times n) nums) ∙ (r.once n ∙ ap (once_to n) (sym w1));
         many = same_total (λ u. length (numbers u)) s.views id v w at (ap (λ (l : List ℕ). length l) nums) ∙ (r.many ∙ sym w1);
-        parts = ap (λ (n : ℕ). n + get_or (set s.words (2 + k) x) 1 0) (same_total undrawn s.views id v w at und) ∙ (ap (λ (n : ℕ). total undrawn s.views + n) w1 ∙ r.parts);
+        parts = ap (λ (n : ℕ). n + get_or (set s.words (8 + 8 * k) x) 1 0) (same_total undrawn s.views id v w at und) ∙ (ap (λ (n : ℕ). total undrawn s.views + n) w1 ∙ r.parts);
         longest = seen_stays s.views id v w r.history at live on r.longest;
         shared_out = same_total made s.views id v w at mades ∙ r.shared_out;
       }

@@ -1,5 +1,5 @@
 -- A look at the history, and a take that wins or finds the turn held.
-use Rattle.std.proofs.Common.{◌≡◌, ℕ, suc, ◌+◌, ◌-◌, ◌<◌, ◌≢◌, inr, ⊎_elim, eqb, List, [], ◌∷◌, ◌++◌, length, get_or, set, sym, refl, ap, ◌∙◌, subst, arith, length-set, get_or-set_same, true, true≢false}
+use Rattle.std.proofs.Common.{◌≡◌, ℕ, suc, ◌+◌, ◌*◌, ◌-◌, ◌<◌, ◌≢◌, inr, ⊎_elim, eqb, List, [], ◌∷◌, ◌++◌, length, get_or, set, sym, refl, ap, ◌∙◌, subst, arith, length-set, get_or-set_same, true, true≢false}
 use mathlib.Core.Option.{none, some, some-injective}
 use lib.ListN.{get_elem?}
 use prog.Atomic.{either}
@@ -44,11 +44,11 @@ module _ {S : Type 0} (M : Meaning S) where
     new = turn_word target me.0.number
 
     abbrev Won : (s : State (Option S) View) → ℕ → Type 0
-    Won s m = (w : View) × (a : Act (Option S)) × Valid s.homes me.1 a × Kept M values (stepped s (2 + k) m id me.1 w a)
-        × taken M (step slots (2 + k) 0 new none) me (get_or s.words (2 + k) 0) (w, carried_after me.1 a)
+    Won s m = (w : View) × (a : Act (Option S)) × Valid s.homes me.1 a × Kept M values (stepped s (8 + 8 * k) m id me.1 w a)
+        × taken M (step slots (8 + 8 * k) 0 new none) me (get_or s.words (8 + 8 * k) 0) (w, carried_after me.1 a)
 
     take_wins : (s : State (Option S) View) (r : TurnRule M s) → k < length s.homes → get_elem? s.views id ≡ some me.0 → me.0.live ≡ true → me.0.number ≢ 0 → target < 65536 → M.path me.0.opening k target → (HasTurn me.0 k → ⊥)
-        → get_or s.words (2 + k) 0 ≡ 0 → Won s new
+        → get_or s.words (8 + 8 * k) 0 ≡ 0 → Won s new
     take_wins s r inside at live numbered small on free zero_word =
         let kn = r.knows id me.0 at live in
         let st : List ℕ = state_of M me.0.opening r.history k in
@@ -57,15 +57,15 @@ module _ {S : Type 0} (M : Meaning S) where
         let w : View = with_seen r.history (with_leases (me.0.leases ++ h ∷ []) me.0) in
         let wide = r.wide in
         let old : (i : ℕ) (t : Lease) → get_elem? me.0.leases i ≡ some t → t.slot ≢ k = λ i t e o. free (i, t, e, o) in
-        let mine : IsLeased M r.opening r.history (set s.words (2 + k) new) (set s.homes k none) me.0.number h = record {
+        let mine : IsLeased M r.opening r.history (set s.words (8 + 8 * k) new) (set s.homes k none) me.0.number h = record {
           inside = subst (λ (z : ℕ). k < z) (sym (length-set s.homes k none)) inside;
           target = small;
-          word = get_or-set_same s.words (2 + k) new 0 (omega arith);
+          word = get_or-set_same s.words (8 + 8 * k) new 0 (omega arith);
           state_is = is_st;
           on_path = subst (λ (o : List ℕ). M.path o k target) kn.opening_is on;
           home = λ o. absurd (true≢false o);
         } in
-        let know : Knows M r.opening r.callers r.history (set s.words (2 + k) new) (set s.homes k none) w = record {
+        let know : Knows M r.opening r.callers r.history (set s.words (8 + 8 * k) new) (set s.homes k none) w = record {
           old = kn.old;
           opening_is = kn.opening_is;
           callers_is = kn.callers_is;
@@ -75,12 +75,12 @@ module _ {S : Type 0} (M : Meaning S) where
           ended = kn.ended;
           leases = λ i t e. ⊎_elim
               (λ (a : get_elem? me.0.leases i ≡ some t). held_else M r.opening r.history s.words s.homes me.0.number t k new none (kn.leases i t a) (old i t a))
-              (λ (a : h ≡ t). subst (IsLeased M r.opening r.history (set s.words (2 + k) new) (set s.homes k none) me.0.number) a mine)
+              (λ (a : h ≡ t). subst (IsLeased M r.opening r.history (set s.words (8 + 8 * k) new) (set s.homes k none) me.0.number) a mine)
               (at_snoc me.0.leases h t i e);
           unnumbered = λ z. absurd (numbered z);
         } in
-        let others : Others M s r id k = λ j u ne a l i t e is. let q : get_or s.words (2 + t.slot) 0 ≡ turn_word t.target u.number = ((r.knows j u a l).leases i t e).word in
-        let same : get_or s.words (2 + t.slot) 0 ≡ get_or s.words (2 + k) 0 = ap (λ (z : ℕ). get_or s.words (2 + z) 0) is in omega arith in
+        let others : Others M s r id k = λ j u ne a l i t e is. let q : get_or s.words (8 + 8 * t.slot) 0 ≡ turn_word t.target u.number = ((r.knows j u a l).leases i t e).word in
+        let same : get_or s.words (8 + 8 * t.slot) 0 ≡ get_or s.words (8 + 8 * k) 0 = ap (λ (z : ℕ). get_or s.words (8 + 8 * z) 0) is in omega arith in
         ⊎_elim
         (λ (f : IsFree M r.opening r.history s.words s.homes k). (
           w,
@@ -95,14 +95,14 @@ module _ {S : Type 0} (M : Meaning S) where
             (λ ne. absurd (ne zero_word)),
           ),
         ))
-        (λ (t : IsListed s.views k). let q : get_or s.words (2 + t.3.slot) 0 ≡ turn_word t.3.target t.1.number = ((r.knows t.0 t.1 t.4 t.5).leases t.2 t.3 t.6).word in
-        let same : get_or s.words (2 + t.3.slot) 0 ≡ get_or s.words (2 + k) 0 = ap (λ (z : ℕ). get_or s.words (2 + z) 0) t.7 in absurd (omega arith))
+        (λ (t : IsListed s.views k). let q : get_or s.words (8 + 8 * t.3.slot) 0 ≡ turn_word t.3.target t.1.number = ((r.knows t.0 t.1 t.4 t.5).leases t.2 t.3 t.6).word in
+        let same : get_or s.words (8 + 8 * t.3.slot) 0 ≡ get_or s.words (8 + 8 * k) 0 = ap (λ (z : ℕ). get_or s.words (8 + 8 * z) 0) t.7 in absurd (omega arith))
         (r.turns k inside)
 
-    take_loses : (s : State (Option S) View) (r : TurnRule M s) → k < length s.homes → get_elem? s.views id ≡ some me.0 → me.0.live ≡ true → (HasTurn me.0 k → ⊥) → get_or s.words (2 + k) 0 ≢ 0 → Won s (get_or s.words (2 + k) 0)
+    take_loses : (s : State (Option S) View) (r : TurnRule M s) → k < length s.homes → get_elem? s.views id ≡ some me.0 → me.0.live ≡ true → (HasTurn me.0 k → ⊥) → get_or s.words (8 + 8 * k) 0 ≢ 0 → Won s (get_or s.words (8 + 8 * k) 0)
     take_loses s r inside at live free some_word =
         let kn = r.knows id me.0 at live in
-        let n : ℕ = get_or s.words (2 + k) 0 in
+        let n : ℕ = get_or s.words (8 + 8 * k) 0 in
         let w : View = met_at r.history k n me.0 in
         let know : K M s r w = record {
           old = kn.old;
@@ -127,7 +127,7 @@ module _ {S : Type 0} (M : Meaning S) where
           w,
           keeps,
           tt,
-          inr (loaded M s (2 + k) id me.1 w (quiet M s r id me.0 w at live know (λ i x e. (i, x, e, refl)) (λ _. refl) refl refl refl)),
+          inr (loaded M s (8 + 8 * k) id me.1 w (quiet M s r id me.0 w at live know (λ i x e. (i, x, e, refl)) (λ _. refl) refl refl refl)),
           (
             r.history,
             finds_at M s r me.0 kn,
@@ -137,7 +137,7 @@ module _ {S : Type 0} (M : Meaning S) where
               target = t.3.target;
               holder = u.number;
               at = refl;
-              found = subst (λ (z : ℕ). get_or s.words (2 + z) 0 ≡ turn_word t.3.target u.number) is q.word;
+              found = subst (λ (z : ℕ). get_or s.words (8 + 8 * z) 0 ≡ turn_word t.3.target u.number) is q.word;
               target_in = q.target;
               drawn = (omega arith, omega arith);
               small = let f = r.few in omega arith;
@@ -150,11 +150,11 @@ module _ {S : Type 0} (M : Meaning S) where
         (r.turns k inside)
 
     take_goes_new : me.0.live ≡ true → me.0.number ≢ 0 → k < slots → target < 65536 → M.path me.0.opening k target → (HasTurn me.0 k → ⊥)
-        → Allows (Kept M values) slots id me (2 + k) (λ n. either (eqb n 0) new n) (taken M (step slots (2 + k) 0 new none) me)
+        → Allows (Kept M values) slots id me (8 + 8 * k) (λ n. either (eqb n 0) new n) (taken M (step slots (8 + 8 * k) 0 new none) me)
     take_goes_new live numbered inside small on free s kept len at _ = let r = turned_of M values s id me.0 kept at live in let here : k < length s.homes = subst (λ (n : ℕ). k < n) (sym len) inside in
-        exchanged (get_or s.words (2 + k) 0) 0 new (Won s) (take_wins s r here at live numbered small on free) (take_loses s r here at live free)
+        exchanged (get_or s.words (8 + 8 * k) 0) 0 new (Won s) (take_wins s r here at live numbered small on free) (take_loses s r here at live free)
 
     pub take_goes : (word : ℕ) → word ≡ new → me.0.live ≡ true → me.0.number ≢ 0 → k < slots → target < 65536 → M.path me.0.opening k target → (HasTurn me.0 k → ⊥)
-        → Allows (Kept M values) slots id me (2 + k) (λ n. either (eqb n 0) word n) (taken M (step slots (2 + k) 0 word none) me)
-    take_goes word is live numbered inside small on free = subst (λ (z : ℕ). Allows (Kept M values) slots id me (2 + k) (λ n. either (eqb n 0) z n) (taken M (step slots (2 + k) 0 z none) me))
+        → Allows (Kept M values) slots id me (8 + 8 * k) (λ n. either (eqb n 0) word n) (taken M (step slots (8 + 8 * k) 0 word none) me)
+    take_goes word is live numbered inside small on free = subst (λ (z : ℕ). Allows (Kept M values) slots id me (8 + 8 * k) (λ n. either (eqb n 0) z n) (taken M (step slots (8 + 8 * k) 0 z none) me))
         (sym is) (take_goes_new live numbered inside small on free)

@@ -1,5 +1,5 @@
 -- The table is opened.
-use Rattle.std.proofs.Common.{◌≡◌, ℕ, zero, suc, ◌+◌, ◌<◌, ◌≤◌, inl, inr, ⊎_elim, List, [], ◌∷◌, map, length, get_or, set, sym, refl, ap, ◌∙◌, subst, arith, true≢false, replicate}
+use Rattle.std.proofs.Common.{◌≡◌, ℕ, zero, suc, ◌+◌, ◌*◌, ◌<◌, ◌≤◌, inl, inr, ⊎_elim, List, [], ◌∷◌, map, length, get_or, set, sym, refl, ap, ◌∙◌, subst, arith, true≢false, replicate}
 use mathlib.Core.Option.{none, some, some-ne-none}
 use lib.ListN.{get_elem?}
 use Rattle.std.specs.declared.option.Option.{Option}
@@ -45,7 +45,7 @@ module _ {S : Type 0} (M : Meaning S) (given : ℕ × List (Option S)) where
   module _ (o : List ℕ) (is_legal : M.legal o) (some_caller : 0 < given.0) (few : given.0 ≤ 64)
       (stand : (k : ℕ) → k < length given.1 → (x : S) × (get_elem? given.1 k ≡ some (Some x)) × M.stands x (M.start o k)) where
     abbrev ws : List ℕ
-    ws = replicate (2 + length given.1) 0
+    ws = replicate (8 + 8 * length given.1) 0
 
     begun : Rule record { words = ws; homes = map some given.1; views = opener o given.0 ∷ [] }
     begun = record {
@@ -56,8 +56,8 @@ module _ {S : Type 0} (M : Meaning S) (given : ℕ × List (Option S)) where
       longest = (0, opener o given.0, refl, refl, refl);
       shared_out = refl;
       few = few;
-      wide = zeros_length (2 + length given.1) ∙ ap (λ (n : ℕ). 2 + n) (sym (length_map some given.1));
-      counted = zeros (2 + length given.1) 0;
+      wide = zeros_length (8 + 8 * length given.1) ∙ ap (λ (n : ℕ). 8 + 8 * n) (sym (length_map some given.1));
+      counted = zeros (8 + 8 * length given.1) 0;
       opened = λ j v a. ap (λ (u : View). u.fresh) (sym (only (opener o given.0) j v a));
       knows = λ j v a l. subst (Knows M o given.0 [] ws (map some given.1)) (only (opener o given.0) j v a) record {
         old = refl;
@@ -70,12 +70,12 @@ module _ {S : Type 0} (M : Meaning S) (given : ℕ × List (Option S)) where
         leases = λ i t b. absurd (some-ne-none t (sym b));
         unnumbered = λ _. refl;
       };
-      turns = λ k h. let s = stand k (subst (λ (n : ℕ). k < n) (length_map some given.1) h) in inl (zeros (2 + length given.1) (2 + k), (s.0, at_map some given.1 k (Some s.0) s.1, s.2));
+      turns = λ k h. let s = stand k (subst (λ (n : ℕ). k < n) (length_map some given.1) h) in inl (zeros (8 + 8 * length given.1) (8 + 8 * k), (s.0, at_map some given.1 k (Some s.0) s.1, s.2));
       drawn = λ i e a. absurd (some-ne-none e (sym a));
       bounded = λ k. omega arith;
-      once = λ n. ap (once_to n) (sym (zeros (2 + length given.1) 1));
-      many = sym (zeros (2 + length given.1) 1);
-      parts = let z = zeros (2 + length given.1) 1 in omega arith;
+      once = λ n. ap (once_to n) (sym (zeros (8 + 8 * length given.1) 1));
+      many = sym (zeros (8 + 8 * length given.1) 1);
+      parts = let z = zeros (8 + 8 * length given.1) 1 in omega arith;
     }
 
     module _ (test : List ℕ → Type 0) (passes : test o) (slots id : ℕ) (me : Me (Option S) View) (is : me ≡ (blank given.0, [])) where

@@ -8,10 +8,9 @@ use Rattle.turn_table.specs.declared.view.View.{View}
 use Rattle.turn_table.specs.declared.view.Lease.{Lease}
 use Rattle.turn_table.specs.Meaning.{Meaning}
 use Rattle.turn_table.specs.History.{Entry, state_of}
-use Rattle.turn_table.specs.Views.{with_seen, lease, moved, freed, met_at, took, entered, numbered}
-use Rattle.turn_table.specs.Passes.{AtRest, IsUndrawn}
+use Rattle.turn_table.specs.Views.{with_seen, lease, moved, freed, took, entered, numbered}
+use Rattle.turn_table.specs.Passes.{AtRest}
 use Rattle.turn_table.proofs.Lists.{at_map_back, at_without}
-use Rattle.turn_table.proofs.Totals.{nothing_listed}
 
 rests_entered : {V : Type 0} (M : Meaning V) (h : List Entry) (e : Entry) (slots : ℕ) (v : View) → length v.mine < 1099511627776 → AtRest slots v → AtRest slots (entered M h e v)
 rests_entered M h e slots v room rest = record {
@@ -54,20 +53,6 @@ rests_took M h k target slots v inside rest = record {
 rests_seen : (slots : ℕ) (h : List Entry) (v : View) → AtRest slots v → AtRest slots (with_seen h v)
 rests_seen slots h v rest = record { live = rest.live; numbered = rest.numbered; room = rest.room; settled = rest.settled; alone = rest.alone; placed = rest.placed }
 
--- a pass that has just drawn its number
-pub rests_drawn : {S : Type 0} (slots n : ℕ) (m : Me S View) → 0 < n → IsUndrawn m → AtRest slots (numbered n m.0)
-rests_drawn slots n m positive u = record {
-  live = u.live;
-  numbered = omega arith;
-  room = let e = ap (λ (l : List Entry). length l) u.no_entry in omega arith;
-  settled = u.settled;
-  alone = u.alone;
-  placed = λ i t a. absurd (nothing_listed m.0.leases u.no_turn i t a);
-}
-
-rests_met : (slots k word : ℕ) (h : List Entry) (v : View) → AtRest slots v → AtRest slots (met_at h k word v)
-rests_met slots k word h v rest = record { live = rest.live; numbered = rest.numbered; room = rest.room; settled = rest.settled; alone = rest.alone; placed = rest.placed }
-
 -- what a pass has between two calls
 abbrev pub Settled : {S : Type 0} → TableId → Me S View → ℕ → ℕ → Type 0
 Settled z m caller calls = (m.1 ≡ []) × (caller ≡ m.0.number) × (calls ≡ length m.0.mine) × AtRest z.slots m.0
@@ -82,6 +67,3 @@ settled_took {S} M h k target z z' v m caller calls same inside is by many rest 
 
 pub settled_seen : {S : Type 0} (h : List Entry) (z z' : TableId) (m m' : Me S View) (caller calls : ℕ) → z' ≡ z → m' ≡ (with_seen h m.0, m.1) → Settled z m caller calls → Settled z' m' caller calls
 settled_seen {S} h z z' m m' caller calls same is rest = subst (λ (t : TableId × Me S View). Settled t.0 t.1 caller calls) (λ i. (sym same i, sym is i)) (rest.0, rest.1, rest.2, rests_seen z.slots h m.0 rest.3)
-
-pub settled_met : {S : Type 0} (k word : ℕ) (h : List Entry) (z z' : TableId) (m m' : Me S View) (caller calls : ℕ) → z' ≡ z → m'.0 ≡ met_at h k word m.0 → m'.1 ≡ m.1 → Settled z m caller calls → Settled z' m' caller calls
-settled_met {S} k word h z z' m m' caller calls same is out rest = subst (λ (t : TableId × Me S View). Settled t.0 t.1 caller calls) (λ i. (sym same i, (sym is i, sym out i))) (rest.0, rest.1, rest.2, rests_met z.slots k word h m.0 rest.3)

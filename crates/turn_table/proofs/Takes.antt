@@ -1,5 +1,5 @@
 -- What a take tells, and what the steps after it may rely on.
-use Rattle.std.proofs.Common.{◌≡◌, ℕ, ◌+◌, ◌-◌, ◌/◌, ◌%◌, ◌<◌, ◌≤◌, ◌≢◌, List, [], ◌∷◌, ◌++◌, map, length, sym, refl, ap, ◌∙◌, subst, arith, true, false}
+use Rattle.std.proofs.Common.{◌≡◌, ℕ, ◌+◌, ◌*◌, ◌-◌, ◌/◌, ◌%◌, ◌<◌, ◌≤◌, ◌≢◌, List, [], ◌∷◌, ◌++◌, map, length, sym, refl, ap, ◌∙◌, subst, arith, true, false}
 use mathlib.Core.Option.{none, some}
 use lib.ListN.{get_elem?}
 use Rattle.std.proofs.lemmas.List.{map-append}
@@ -23,7 +23,7 @@ pub parts_of : (n t h : ℕ) → n ≡ turn_word t h → t < 65536 → ((n - 1) 
 parts_of n t h is small = (omega arith, omega arith)
 
 module _ {S : Type 0} (M : Meaning S) (slots k target word : ℕ) (m : Me (Option S) View) (n : ℕ) (m' : Me (Option S) View)
-    (is : word ≡ turn_word target m.0.number) (t : taken M (step slots (2 + k) 0 word none) m n m') where
+    (is : word ≡ turn_word target m.0.number) (t : taken M (step slots (8 + 8 * k) 0 word none) m n m') where
   abbrev st : List Entry → List ℕ
   st h = state_of M m.0.opening h k
 
@@ -90,21 +90,21 @@ module _ {S : Type 0} (M : Meaning S) (values : ℕ × List (Option S)) (slots i
   abbrev All : State (Option S) View → Type 0
   All = Kept M values
 
-  pub rest_allowed : me ≡ (v, (k, None) ∷ []) → Allows All slots id me (2 + k) (λ n. n) (rested (step slots (2 + k) 0 0 none) me)
-  rest_allowed is = subst (λ (m : Me (Option S) View). Allows All slots id m (2 + k) (λ n. n) (rested (step slots (2 + k) 0 0 none) m)) (sym is)
-      (subst (λ (z : ℕ). Allows All slots id (v, (z, None) ∷ []) (2 + z) (λ n. n) (rested (step slots (2 + z) 0 0 none) (v, (z, None) ∷ []))) at (rest_goes M values slots id v live i t lists))
+  pub rest_allowed : me ≡ (v, (k, None) ∷ []) → Allows All slots id me (8 + 8 * k) (λ n. n) (rested (step slots (8 + 8 * k) 0 0 none) me)
+  rest_allowed is = subst (λ (m : Me (Option S) View). Allows All slots id m (8 + 8 * k) (λ n. n) (rested (step slots (8 + 8 * k) 0 0 none) m)) (sym is)
+      (subst (λ (z : ℕ). Allows All slots id (v, (z, None) ∷ []) (8 + 8 * z) (λ n. n) (rested (step slots (8 + 8 * z) 0 0 none) (v, (z, None) ∷ []))) at (rest_goes M values slots id v live i t lists))
 
-  pub fetch_allowed : t.away ≡ false → me ≡ (v, []) → Allows All slots id me (2 + k) (λ n. n) (fetched (step slots (2 + k) 0 0 none) me)
-  fetch_allowed home is = subst (λ (m : Me (Option S) View). Allows All slots id m (2 + k) (λ n. n) (fetched (step slots (2 + k) 0 0 none) m)) (sym is)
-      (subst (λ (z : ℕ). Allows All slots id (v, []) (2 + z) (λ n. n) (fetched (step slots (2 + z) 0 0 none) (v, []))) at (fetch_goes M values slots id v live i t lists home))
+  pub fetch_allowed : t.away ≡ false → me ≡ (v, []) → Allows All slots id me (8 + 8 * k) (λ n. n) (fetched (step slots (8 + 8 * k) 0 0 none) me)
+  fetch_allowed home is = subst (λ (m : Me (Option S) View). Allows All slots id m (8 + 8 * k) (λ n. n) (fetched (step slots (8 + 8 * k) 0 0 none) m)) (sym is)
+      (subst (λ (z : ℕ). Allows All slots id (v, []) (8 + 8 * z) (λ n. n) (fetched (step slots (8 + 8 * z) 0 0 none) (v, []))) at (fetch_goes M values slots id v live i t lists home))
 
-  pub release_allowed : (x : S) → M.stands x t.state → me ≡ (v, (k, Some x) ∷ []) → Allows All slots id me (2 + k) (λ _. 0) (released (step slots (2 + k) 0 0 none) me)
-  release_allowed x stand is = subst (λ (m : Me (Option S) View). Allows All slots id m (2 + k) (λ _. 0) (released (step slots (2 + k) 0 0 none) m)) (sym is)
-      (subst (λ (z : ℕ). Allows All slots id (v, (z, Some x) ∷ []) (2 + z) (λ _. 0) (released (step slots (2 + z) 0 0 none) (v, (z, Some x) ∷ []))) at (release_goes M values slots id v live i t lists x stand))
+  pub release_allowed : (x : S) → M.stands x t.state → me ≡ (v, (k, Some x) ∷ []) → Allows All slots id me (8 + 8 * k) (λ _. 0) (released (step slots (8 + 8 * k) 0 0 none) me)
+  release_allowed x stand is = subst (λ (m : Me (Option S) View). Allows All slots id m (8 + 8 * k) (λ _. 0) (released (step slots (8 + 8 * k) 0 0 none) m)) (sym is)
+      (subst (λ (z : ℕ). Allows All slots id (v, (z, Some x) ∷ []) (8 + 8 * z) (λ _. 0) (released (step slots (8 + 8 * z) 0 0 none) (v, (z, Some x) ∷ []))) at (release_goes M values slots id v live i t lists x stand))
 
 -- the steps of a take that wins
 module _ {S : Type 0} (M : Meaning S) (slots k target word : ℕ) (m : Me (Option S) View) (n : ℕ) (m' : Me (Option S) View) (is : word ≡ turn_word target m.0.number)
-    (t : taken M (step slots (2 + k) 0 word none) m n m') (small : target < 65536) (zero_word : n ≡ 0) (empty : m.1 ≡ []) (free : HasTurn m.0 k → ⊥) where
+    (t : taken M (step slots (8 + 8 * k) 0 word none) m n m') (small : target < 65536) (zero_word : n ≡ 0) (empty : m.1 ≡ []) (free : HasTurn m.0 k → ⊥) where
   abbrev W : Won M slots k target word m n m' is t
   W = won M slots k target word m n m' is t small zero_word
 
@@ -130,7 +130,7 @@ module _ {S : Type 0} (M : Meaning S) (slots k target word : ℕ) (m : Me (Optio
     pub lists_it : get_elem? holding.leases (length m.0.leases) ≡ some (lease k target now true)
     lists_it = at_last m.0.leases (lease k target now true) (length m.0.leases) refl
 
-    module _ (m3 : Me (Option S) View) (k' : ℕ) (e : 2 + k ≡ 2 + k') (rested_is : m3 ≡ (with_leases (map (marked k' false) m2.0.leases) m2.0, [])) where
+    module _ (m3 : Me (Option S) View) (k' : ℕ) (e : 8 + 8 * k ≡ 8 + 8 * k') (rested_is : m3 ≡ (with_leases (map (marked k' false) m2.0.leases) m2.0, [])) where
       pub settles : m3 ≡ (took M W.history k target m.0, [])
       settles = let same : k' ≡ k = omega arith in rested_is ∙ ((λ i. (with_leases (map (marked (same i) false) (emptied i).0.leases) (emptied i).0, []))
           ∙ (λ i. (with_leases (back_in_place m.0.leases k target now (not_listed m.0 k free) i) holding, [])))

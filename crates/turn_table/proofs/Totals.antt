@@ -64,9 +64,6 @@ seen_stays vs id v w h at live on t = dite (ℕ_discrete t.0 id)
 pub times_here : (x : ℕ) (ys : List ℕ) → times x (x ∷ ys) ≡ suc (times x ys)
 times_here x ys = let e = if_true {A = ℕ} (x == x) 1 0 (eq-eqb x x refl) in omega arith
 
-pub times_else : (x y : ℕ) (ys : List ℕ) → y ≢ x → times x (y ∷ ys) ≡ times x ys
-times_else x y ys ne = let e = if_false {A = ℕ} (y == x) 1 0 (ne_eqb y x ne) in omega arith
-
 pub once_above : (x n : ℕ) → n < x → once_to x n ≡ 0
 once_above x zero h = refl
 once_above x (suc n) h = let e = if_false {A = ℕ} (suc n == x) 1 0 (ne_eqb (suc n) x (λ i. omega arith)) in let i = once_above x n (omega arith) in omega arith

@@ -1,6 +1,6 @@
 -- What each step on the table tells the pass that makes it.
 -- This project's own.
-use Rattle.std.specs.Prelude.{◌≡◌, ◌≢◌, ℕ, suc, ◌+◌, ◌<◌, ◌≤◌, List, [], ◌∷◌, ◌++◌, map, length, true, false}
+use Rattle.std.specs.Prelude.{◌≡◌, ◌≢◌, ℕ, suc, ◌+◌, ◌*◌, ◌<◌, ◌≤◌, List, [], ◌∷◌, ◌++◌, map, length, true, false}
 use Rattle.std.specs.declared.option.Option.{Option}
 use Rattle.std.specs.declared.option.Option.TheVariants.{None, Some}
 use Rattle.atomic_table.specs.Table.{Me, Step}
@@ -39,7 +39,7 @@ module _ {V : Type 0} (M : Meaning V) where
     pub value : V
     pub slot : ℕ
     pub target : ℕ
-    pub at : st.word ≡ 2 + slot
+    pub at : st.word ≡ 8 + 8 * slot
     pub wrote : st.second ≡ turn_word target m.0.number
     pub target_in : target < 65536
     pub stands : M.stands value (state_of M m.0.opening h slot)
@@ -50,7 +50,7 @@ module _ {V : Type 0} (M : Meaning V) where
     pub slot : ℕ
     pub target : ℕ
     pub holder : ℕ
-    pub at : st.word ≡ 2 + slot
+    pub at : st.word ≡ 8 + 8 * slot
     pub found : n ≡ turn_word target holder
     pub target_in : target < 65536
     pub drawn : (0 < holder) × (holder ≤ m.0.callers)
@@ -64,12 +64,12 @@ module _ {V : Type 0} (M : Meaning V) where
 
 -- the slot is back in its place
 abbrev pub rested : {V : Type 0} → Step (Option V) → Sat V → ℕ → Sat V → Type 0
-rested st m n m' = (k : ℕ) × (st.word ≡ 2 + k) × (m' ≡ (with_leases (map (marked k false) m.0.leases) m.0, []))
+rested st m n m' = (k : ℕ) × (st.word ≡ 8 + 8 * k) × (m' ≡ (with_leases (map (marked k false) m.0.leases) m.0, []))
 
 -- the slot is out of its place
 abbrev pub fetched : {V : Type 0} → Step (Option V) → Sat V → ℕ → Sat V → Type 0
-fetched st m n m' = (k : ℕ) × (st.word ≡ 2 + k) × (m' ≡ (with_leases (map (marked k true) m.0.leases) m.0, (k, None) ∷ []))
+fetched st m n m' = (k : ℕ) × (st.word ≡ 8 + 8 * k) × (m' ≡ (with_leases (map (marked k true) m.0.leases) m.0, (k, None) ∷ []))
 
 -- the turn was given back
 abbrev pub released : {V : Type 0} → Step (Option V) → Sat V → ℕ → Sat V → Type 0
-released st m n m' = (k : ℕ) × (st.word ≡ 2 + k) × (m' ≡ (with_leases (without k m.0.leases) m.0, []))
+released st m n m' = (k : ℕ) × (st.word ≡ 8 + 8 * k) × (m' ≡ (with_leases (without k m.0.leases) m.0, []))

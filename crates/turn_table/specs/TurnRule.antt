@@ -1,8 +1,9 @@
 -- The rule of turns: what holds of a table's words, slots and passes between any two steps.
 -- This project's own.
--- Word 0 counts the entries, and word 1 the callers' numbers that were drawn. Word 2 + slot is the turn of the slot: 0 where it is free,
--- else 1 + target + 65,536 * number, where the caller with that number has it for that target.
-use Rattle.std.specs.Prelude.{◌≡◌, ℕ, zero, suc, ◌+◌, ◌<◌, ◌≤◌, ◌==◌, ◌⊎◌, List, [], ◌∷◌, ◌++◌, map, length, slice_index, true, false, if◌then◌else◌}
+-- Word 0 counts the entries, and word 1 the callers' numbers that were drawn. Word 8 + 8 * slot is the turn of the slot: 0 where it is free,
+-- else 1 + target + 65,536 * number, where the caller with that number has it for that target. The words between are not used: so no two
+-- turns lie in one line of a processor's cache.
+use Rattle.std.specs.Prelude.{◌≡◌, ℕ, zero, suc, ◌+◌, ◌*◌, ◌<◌, ◌≤◌, ◌==◌, ◌⊎◌, List, [], ◌∷◌, ◌++◌, map, length, slice_index, true, false, if◌then◌else◌}
 use mathlib.Core.Option.{some}
 use mathlib.Core.Option as known
 use lib.ListN.{get_elem?}
@@ -65,7 +66,7 @@ module _ {V : Type 0} (M : Meaning V) where
   pub record IsLeased (o : List ℕ) (h : List Entry) (words : List ℕ) (homes : Homes V) (number : ℕ) (t : Lease) : Type 0 where
     pub inside : t.slot < length homes
     pub target : t.target < 65536
-    pub word : slice_index words (2 + t.slot) ≡ turn_word t.target number
+    pub word : slice_index words (8 + 8 * t.slot) ≡ turn_word t.target number
     pub state_is : t.state ≡ state_of M o h t.slot
     pub on_path : M.path o t.slot t.target
     -- its place is empty, and away only within a call
@@ -88,7 +89,7 @@ module _ {V : Type 0} (M : Meaning V) where
 
   -- the turn of a slot is free: the slot is at home, and its value stands for its state after the history
   abbrev pub IsFree : List ℕ → List Entry → List ℕ → Homes V → ℕ → Type 0
-  IsFree o h words homes k = (slice_index words (2 + k) ≡ 0) × ((x : V) × (get_elem? homes k ≡ some (some (Some x))) × M.stands x (state_of M o h k))
+  IsFree o h words homes k = (slice_index words (8 + 8 * k) ≡ 0) × ((x : V) × (get_elem? homes k ≡ some (some (Some x))) × M.stands x (state_of M o h k))
 
 -- a view that is not spent lists the slot
 abbrev pub IsListed : List View → ℕ → Type 0
@@ -114,7 +115,7 @@ module _ {V : Type 0} (M : Meaning V) where
     -- 2. Where the turn of a slot is free, the slot is at home, and its value stands for its state.
     -- 3. Else a view lists it. The word of each slot that a view lists has that view's number and the lease's target, and the lease has the
     -- slot's state (`Knows`). So no two views list one slot, since their numbers differ by clause 4.
-    pub wide : length s.words ≡ 2 + length s.homes
+    pub wide : length s.words ≡ 8 + 8 * length s.homes
     pub turns : (k : ℕ) → k < length s.homes → IsFree M opening history s.words s.homes k ⊎ IsListed s.views k
     -- 4. Word 1 and what is not drawn yet add up to the number of callers. The numbers of all views and of all callers that ended
     -- differ, and are those from 1 to word 1.

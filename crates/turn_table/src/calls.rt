@@ -1,5 +1,5 @@
 //! What a pass does at the table.
-ghost use Rattle.std.specs.Prelude.{◌≡◌, ◌<◌, ◌^◌, IfErr, IfOk, length};
+ghost use Rattle.std.specs.Prelude.{◌≡◌, ◌+◌, ◌*◌, ◌<◌, ◌^◌, IfErr, IfOk, length};
 ghost use Rattle.turn_table.specs.Calls.{Looks, Takes, Meets, MayCommit, Commits, MayPut};
 ghost use Rattle.turn_table.specs.Views.{HasTurn, freed};
 
@@ -69,8 +69,9 @@ impl<M: Machine> Turns<M> {
     {
         let word = 1 + target as u64 + 65536 * pass.caller as u64;
         let index = slot as usize;
+        let turn = 8 + 8 * slot as usize;
         let shared = &self.table.shared;
-        let found = shared.compare_exchange::<Take<M>>(&mut pass.seat, 2 + index, 0, word);
+        let found = shared.compare_exchange::<Take<M>>(&mut pass.seat, turn, 0, word);
         if found != 0 {
             let holder = ((found - 1) / 65536) as u8;
             let target = ((found - 1) % 65536) as u16;
@@ -81,7 +82,7 @@ impl<M: Machine> Turns<M> {
             });
         }
         let value = shared.exchange(&mut pass.seat, index, None);
-        shared.load::<Rest>(&mut pass.seat, 2 + index);
+        shared.load::<Rest>(&mut pass.seat, turn);
         match value {
             Some(value) => Ok(value),
             None => unreachable!(),
@@ -96,12 +97,13 @@ impl<M: Machine> Turns<M> {
         ensures freed { pass.new.view ≡ freed slot pass.old.view }
     {
         let index = slot as usize;
+        let turn = 8 + 8 * slot as usize;
         let shared = &self.table.shared;
-        shared.load::<Fetch>(&mut pass.seat, 2 + index);
+        shared.load::<Fetch>(&mut pass.seat, turn);
         drop(shared.exchange(&mut pass.seat, index, Some(value)));
-        shared.swap::<Release>(&mut pass.seat, 2 + index, 0);
+        shared.swap::<Release>(&mut pass.seat, turn, 0);
         if self.waiting.load(Ordering::SeqCst) != 0 {
-            shared.wake_all(2 + index);
+            shared.wake_all(turn);
         }
     }
 
@@ -114,7 +116,7 @@ impl<M: Machine> Turns<M> {
     {
         self.table
             .shared
-            .load::<Glance<M>>(&mut pass.seat, 2 + slot as usize)
+            .load::<Glance<M>>(&mut pass.seat, 8 + 8 * slot as usize)
     }
 
     // Looks at the turn for a short time, as long as another pass has it.
@@ -122,7 +124,7 @@ impl<M: Machine> Turns<M> {
         requires { slot < self.now.table.slots }
     {
         for _ in 0..LOOKS {
-            if self.table.shared.peek(2 + slot as usize) == 0 {
+            if self.table.shared.peek(8 + 8 * slot as usize) == 0 {
                 return;
             }
             pause();
@@ -133,12 +135,12 @@ impl<M: Machine> Turns<M> {
     fn sleep<R: Wait>(&self, rt: &R, slot: u16)
         requires { slot < self.now.table.slots }
     {
-        let index = 2 + slot as usize;
+        let turn = 8 + 8 * slot as usize;
         let shared = &self.table.shared;
         self.waiting.fetch_add(1, Ordering::SeqCst);
-        let word = shared.peek(index);
+        let word = shared.peek(turn);
         if word != 0 {
-            shared.park(rt, index, (word % 4294967296) as u32);
+            shared.park(rt, turn, (word % 4294967296) as u32);
         }
         self.waiting.fetch_sub(1, Ordering::SeqCst);
     }

@@ -1,5 +1,5 @@
 //! A table is opened.
-ghost use Rattle.std.specs.Prelude.{◌≡◌, ◌+◌, ◌<◌, ◌≤◌, ℕ, List, [], length, map, replicate, Some, All, IfOk, vec_len, vec_capacity, true};
+ghost use Rattle.std.specs.Prelude.{◌≡◌, ◌+◌, ◌*◌, ◌<◌, ◌≤◌, ℕ, List, [], length, map, replicate, Some, All, IfOk, vec_len, vec_capacity, true};
 ghost use mathlib.Core.Option.{some};
 ghost use lib.ListN.{get_elem?};
 ghost use Rattle.turn_table.specs.Views.{blank, opener, numbered, kept_after, newcomer};
@@ -51,11 +51,11 @@ fn make<M: Machine>(
 >
     requires { vec_len values ≤ 65535 }
     ensures seat { IfOk result (λ r. (r.1.table_id ≡ r.0.shared.table_id) × (r.1.me ≡ (blank callers, []))) }
-    ensures counts { IfOk result (λ r. (r.0.shared.table_id.slots ≡ vec_len values) × (r.0.shared.table_id.words ≡ 2 + vec_len values)) }
+    ensures counts { IfOk result (λ r. (r.0.shared.table_id.slots ≡ vec_len values) × (r.0.shared.table_id.words ≡ 8 + 8 * vec_len values)) }
     ensures given { IfOk result (λ r. (r.0.shared.key.0 ≡ callers) × (r.0.shared.key.1.value.items ≡ map Some values.items)) }
 {
     let count = values.len();
-    let Ok(words) = zeros(alloc, 2 + count) else {
+    let Ok(words) = zeros(alloc, 8 + 8 * count) else {
         return Err(OutOfMemory);
     };
     let Ok(slots) = places(alloc, values) else {
@@ -129,6 +129,7 @@ impl<M: Machine> Turns<M> {
             seat,
             caller: (before + 1) as u8,
             calls: 0,
+            apart: [0; 6],
         }
     }
 

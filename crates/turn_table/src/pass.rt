@@ -14,6 +14,8 @@ pub struct Pass<M: Machine> {
     pub(crate) seat: Seat<Option<M::Value>, View>,
     pub(crate) caller: u8,
     pub(crate) calls: u64,
+    // Keeps passes that stand in a row in lines of their own of a processor's cache.
+    pub(crate) apart: [u64; 6],
 }
 
 impl<M: Machine> Model for Pass<M> {
@@ -51,6 +53,7 @@ impl<M: Machine> Pass<M> {
             seat,
             caller: _,
             calls: _,
+            apart: _,
         } = self;
         seat
     }

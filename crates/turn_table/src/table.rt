@@ -30,17 +30,17 @@ impl<M: Machine> TableRule<Option<M::Value>, View, Given<M::Value>> for Ruled<M>
 pub struct Turns<M: Machine> {
     pub(crate) machine: M,
     pub(crate) table: Table<Option<M::Value>, View, Given<M::Value>, Ruled<M>, Global>,
-    // How many passes wait for some turn just now: while none does, a turn is given back without a wake.
+    // How many passes sleep, or are about to, until some turn is free: while none does, a turn is given back without a wake.
     pub(crate) waiting: AtomicU64,
 }
 
 impl<M: Machine> Model for Turns<M> {
-    ghost use Rattle.std.specs.Prelude.{◌≡◌, ◌+◌, ◌<◌, ◌≤◌};
+    ghost use Rattle.std.specs.Prelude.{◌≡◌, ◌+◌, ◌*◌, ◌<◌, ◌≤◌};
     ghost use Rattle.turn_table.specs.Passes.{Board};
 
     ghost Value = { Board M };
 
     ghost view = { λ t. record { machine = t.machine; table = t.table.shared.table_id; callers = t.table.shared.key.0 } };
 
-    ghost invariant = { λ t. (t.table.shared.table_id.words ≡ 2 + t.table.shared.table_id.slots) × (t.table.shared.table_id.slots ≤ 65535) × (0 < t.table.shared.key.0) };
+    ghost invariant = { λ t. (t.table.shared.table_id.words ≡ 8 + 8 * t.table.shared.table_id.slots) × (t.table.shared.table_id.slots ≤ 65535) × (0 < t.table.shared.key.0) };
 }

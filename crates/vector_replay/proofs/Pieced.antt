@@ -1,7 +1,5 @@
 -- A text that is replayed piece by piece.
-use Rattle.std.proofs.Common.{◌≡◌, ◌≤◌, ◌<◌, ℕ, ◌∷◌, List, [], ◌++◌, length, take, refl, sym, ap, ◌∙◌, subst, arith, append-nil, length-append, length-take, Option, Result, Ok, Err}
-use Rattle.std.proofs.Math.Seq.{take-nil}
-use Rattle.std.proofs.lemmas.List.{append_assoc}
+use Rattle.std.proofs.Common.{◌≡◌, ◌≤◌, ◌<◌, ℕ, ◌∷◌, List, [], ◌++◌, length, refl, sym, ap, ◌∙◌, subst, arith, append-nil, Option, Result, Ok, Err}
 use Rattle.std.specs.List.{concat}
 use Rattle.std.specs.Str.Lines.{lines}
 use Rattle.std.specs.Io.KnownBytes.{Appends}
@@ -12,9 +10,9 @@ use Rattle.vector_text.specs.declared.case.Family.{Family}
 use Rattle.vector_text.specs.declared.reader.TextRefusal as texts
 use Rattle.vector_text.specs.declared.reader.TextRefusal.{TextRefusal}
 use Rattle.vector_text.specs.declared.spot.Answer as answers
-use Rattle.vector_text.specs.Feeding.{Window, given}
+use Rattle.vector_text.specs.Feeding.{Window}
 use Rattle.vector_text.specs.Text.{Place, at_start, entries_from}
-use Rattle.vector_text.specs.Reading.{GivesHeld, Reader, SaysOf, Waits, groups_in, left_of}
+use Rattle.vector_text.specs.Reading.{GivesHeld, Reader, SaysOf, groups_in, left_of}
 use Rattle.vector_replay.specs.declared.totals.Totals.{Totals}
 use Rattle.vector_replay.specs.declared.totals.ReplayRefusal.{ReplayRefusal}
 use Rattle.vector_replay.specs.declared.totals.ReplayRefusal.TheVariants.{Text, WriteFault, OutOfMemory}
@@ -28,23 +26,6 @@ abbrev at : Reader → Totals → Replayer
 at r t = record { reader = r; totals = t }
 
 -- ---- a piece is taken in
-
-pub stands_given : (f : Family) (text : List ℕ) (before now : Option (List ℕ)) (r : Reader) (t : Totals) (piece : List ℕ) → StandsBehind f text before (at r t) now
-    → StandsBehind f (text ++ take r.window.room piece) before (at (record r { window = given piece r.window }) t) now
-stands_given f text before now r t [] s = record {
-  said = s.said;
-  written = s.written;
-  leads = λ more short.
-      ap (λ (x : List ℕ). replayed f (x ++ more)) (ap (λ (x : List ℕ). text ++ x) (take-nil r.window.room) ∙ append-nil text) ∙ s.leads more (omega (arith, short));
-}
-stands_given f text before now r t (byte ∷ piece) s = record {
-  said = s.said;
-  written = s.written;
-  leads = λ more short.
-      let got = take r.window.room (byte ∷ piece) in
-      ap (replayed f) (append_assoc text got more) ∙ (s.leads (got ++ more) (omega (arith, short, length-append got more, length-take r.window.room (byte ∷ piece)))
-      ∙ ap (λ (x : List ℕ). with_lines s.said (report_of t (entries_from r.family r.place (lines x)))) (sym (append_assoc r.window.ahead got more)));
-}
 
 -- ---- a replay goes on
 
@@ -72,16 +53,6 @@ pub held_taken : {T : Type 0} (f : Family) (text : List ℕ) (out now now' : Opt
     → StandsBehind f text out (at r t) now → SaysOf r r' answers.TheVariants.Case → Takes t r'.case t' now now' (Ok done) → StandsBehind f text out (at r' t') now'
 held_taken f text out now now' r r' t t' done room s says takes =
     held_next f text out now now' r r' t t' takes.0 room s takes.1 (λ more short. ap (report_of t) (says more short) ∙ takes.2 (left_of r' more))
-
--- where the text rests on what follows
-pub held_waits : (f : Family) (text : List ℕ) (out now : Option (List ℕ)) (r r' : Reader) (t : Totals) → r'.window.room ≡ r.window.room
-    → StandsBehind f text out (at r t) now → Waits r r' → IsCounted t r' → GoesOn f text out (at r' t) now
-held_waits f text out now r r' t room s waits counted = record {
-  stands = held_next f text out now now r r' t t [] room s (appends_none now) (λ more short. ap (report_of t) (waits.says more short));
-  short = waits.short;
-  more = waits.room;
-  counted = counted;
-}
 
 -- ---- a replay ends
 

@@ -4,7 +4,7 @@ use Rattle.std.specs.List.{concat}
 use Rattle.std.specs.Str.Lines.{lines}
 use Rattle.std.specs.Io.KnownBytes.{Appends}
 use Rattle.std.proofs.lemmas.List.Folds.{concat-append}
-use Rattle.rbg_bytes.specs.Streams.{AppendsFront, Rose}
+use Rattle.rbg_bytes.specs.Streams.{AppendsFront}
 use Rattle.rbg_bytes.proofs.Fronts.{appends_both, front_after, front_within}
 use Rattle.vector_text.specs.declared.case.Family.{Family}
 use Rattle.vector_text.specs.declared.reader.TextRefusal as texts
@@ -19,7 +19,7 @@ use Rattle.vector_replay.specs.declared.totals.Totals.{Totals}
 use Rattle.vector_replay.specs.declared.totals.ReplayRefusal.{ReplayRefusal}
 use Rattle.vector_replay.specs.declared.totals.ReplayRefusal.TheVariants.{Text, WriteFault, OutOfMemory}
 use Rattle.vector_replay.specs.Report.{Counted, Faulty, Report, none_yet, one_skipped, report_of, totals_line, with_lines}
-use Rattle.vector_replay.specs.Replaying.{Ends, Finishes, HasReadCause, HasWriteCause, Stands, Takes, replayed}
+use Rattle.vector_replay.specs.Replaying.{Ends, Finishes, HasReadCause, Stands, Takes, replayed}
 use Rattle.vector_text.proofs.Writing.{appends_none}
 
 -- ---- one step of a report
@@ -190,12 +190,6 @@ untaken_reads T t t' c now now' before count (Text (texts.TheVariants.ReadFault 
 untaken_reads T t t' c now now' before count (WriteFault k) takes same = same
 untaken_reads T t t' c now now' before count OutOfMemory takes same = absurd takes
 
--- a refusal of the reader
-pub refused_reads : (T : Type 0) (before start count : ℕ) (why : TextRefusal) → before ≡ start → reads.HasReadCause {T = T} before count (Err why)
-    → HasReadCause {T = Totals} start count (Err (Text why))
-refused_reads T before start count (texts.TheVariants.Fault line why) at cause = cause ∙ at
-refused_reads T before start count (texts.TheVariants.ReadFault k) at cause = (subst (λ (n : ℕ). Rose n count) at cause.0, cause.1)
-
 -- the last line leaves it
 pub finished_reads : (t : Totals) (now now' : Option (List ℕ)) (before count : ℕ) (result : Result Totals ReplayRefusal) → Finishes t now now' result → count ≡ before
     → HasReadCause before count result
@@ -203,10 +197,3 @@ finished_reads t now now' before count (Ok totals) done same = same
 finished_reads t now now' before count (Err (Text why)) done same = absurd done
 finished_reads t now now' before count (Err (WriteFault k)) done same = same
 finished_reads t now now' before count (Err OutOfMemory) done same = absurd done
-
--- the sink's count
-pub untaken_writes : (T U : Type 0) (before start count : ℕ) (why : ReplayRefusal) → before ≡ start → HasWriteCause {T = T} before count (Err why)
-    → HasWriteCause {T = U} start count (Err why)
-untaken_writes T U before start count (Text why) at cause = cause ∙ at
-untaken_writes T U before start count (WriteFault k) at cause = (subst (λ (n : ℕ). Rose n count) at cause.0, cause.1)
-untaken_writes T U before start count OutOfMemory at cause = cause ∙ at

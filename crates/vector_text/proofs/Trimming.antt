@@ -1,5 +1,5 @@
 -- Blanks at the ends of a text.
-use Rattle.std.proofs.Common.{◌≡◌, ◌<◌, ◌≤◌, ℕ, ◌+◌, ◌-◌, List, [], ◌∷◌, ◌++◌, length, drop, take, get_or, Bool, true, false, cond, refl, sym, ap, ◌∙◌, arith, drop_of_length-le, length-drop}
+use Rattle.std.proofs.Common.{◌≡◌, ◌<◌, ◌≤◌, ℕ, ◌+◌, ◌-◌, List, [], ◌∷◌, ◌++◌, length, drop, take, get_or, Bool, true, false, cond, refl, sym, ap, ◌∙◌, arith, length-drop}
 use Rattle.std.proofs.lemmas.List.{take_more}
 use Rattle.std.specs.Prelude.{position, Option, Some, None}
 use Rattle.vector_text.specs.declared.trim.Blank.TheVariants.{Space, SpaceOrTab}
@@ -12,17 +12,6 @@ pub first_more : (p : ℕ → Bool) (w : List ℕ) (i : ℕ) → i < length w �
     → without_first p (drop (i + 1) w) ≡ without_first p w
 first_more p w i h passes same =
     sym (ap (without_first p) (dropped w i h) ∙ ap (λ (b : Bool). cond b (without_first p (drop (i + 1) w)) (get_or w i 0 ∷ drop (i + 1) w)) passes) ∙ same
-
--- a byte that doesn't pass
-pub first_stops : (p : ℕ → Bool) (w : List ℕ) (i : ℕ) → i < length w → p (get_or w i 0) ≡ false → without_first p (drop i w) ≡ without_first p w
-    → drop i w ≡ without_first p w
-first_stops p w i h stops same =
-    sym (sym same ∙ (ap (without_first p) (dropped w i h)
-    ∙ (ap (λ (b : Bool). cond b (without_first p (drop (i + 1) w)) (get_or w i 0 ∷ drop (i + 1) w)) stops ∙ sym (dropped w i h))))
-
--- all pass
-pub first_all : (p : ℕ → Bool) (w : List ℕ) (i : ℕ) → length w ≤ i → without_first p (drop i w) ≡ without_first p w → [] ≡ without_first p w
-first_all p w i h same = sym (ap (without_first p) (drop_of_length-le w h)) ∙ same
 
 -- a byte that passes, at the end
 last_passes : (p : ℕ → Bool) (w : List ℕ) (c : ℕ) → p c ≡ true → without_last p (w ++ c ∷ []) ≡ without_last p w

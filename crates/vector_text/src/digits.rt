@@ -1,5 +1,5 @@
 // Hexadecimal digits in a buffer.
-ghost use Rattle.std.specs.Prelude.{◌≡◌, ◌≤◌, ◌+◌, ◌*◌, ◌++◌, length, take, Some, Ok};
+ghost use Rattle.std.specs.Prelude.{◌≡◌, ◌≤◌, ◌+◌, ◌*◌, ◌++◌, length, take, drop, Some, Ok};
 ghost use Rattle.std.specs.Bool.{OnTrue};
 ghost use Rattle.hex.specs.Hex.{decode_of, encode_lower, hex_digit_value};
 
@@ -14,10 +14,11 @@ fn fill_digits(bytes: &[u8], out: &mut [u8])
     }
 }
 
-/// Puts the lower case digits of bytes at a place of a buffer in which they fit. What stands before them stays as it is.
+/// Puts the lower case digits of bytes at a place of a buffer in which they fit. What stands before and behind them stays as it is.
 pub fn put_digits(out: &mut [u8], at: usize, bytes: &[u8])
     requires { at + 2 * length bytes.now ≤ length out.old }
-    ensures { take (at + 2 * length bytes.now) out.new ≡ take at out.old ++ encode_lower bytes.now }
+    ensures front { take (at + 2 * length bytes.now) out.new ≡ take at out.old ++ encode_lower bytes.now }
+    ensures behind { drop (at + 2 * length bytes.now) out.new ≡ drop (at + 2 * length bytes.now) out.old }
 {
     fill_digits(bytes, &mut out[at..at + 2 * bytes.len()]);
 }
