@@ -83,7 +83,6 @@ module _ {S : Type 0} (told : S → Option (List ℕ)) (faults : S → ℕ) wher
   -- what the table leaves, as the tree has it
   pub record Left (t : SharedView) (passes : List Standing) (calls : ℕ) (nodes : List NodeView) (sources : List (SourceView S)) : Type 0 where
     pub have : HaveHistory told faults t.plan nodes sources
-    pub few : AreAtMost nodes (2 ^ 61)
     pub closed : IsClosed told faults t passes (record { plan = t.plan; nodes = nodes; sources = sources; calls = 0 }) calls
 
   pub left : (t : SharedView) (passes : List Standing) (calls : ℕ) (values : List (SlotValue S)) → AreReady t passes → 0 < length passes
@@ -100,7 +99,6 @@ module _ {S : Type 0} (told : S → Option (List ℕ)) (faults : S → ℕ) wher
       let small : length rd.entries ≤ 2 ^ 46 = (let a = cl.few in let b = cl.length_is in omega (arith, a, b, long)) in
       record {
         have = record { f = pass.f; o = pass.o; es = rd.entries; plan_is = pass.plan_is; history = rd.history; stand = stand };
-        few = few_after pass.f pass.o rd.entries (nodes_in values) (sources_in values) stand (counts_small pass.f pass.o rd.entries rd.history small);
         closed = record {
           f = pass.f;
           o = pass.o;
@@ -116,6 +114,7 @@ module _ {S : Type 0} (told : S → Option (List ℕ)) (faults : S → ℕ) wher
           plan_back = refl;
           stand = stand;
           fresh = refl;
+          few_counts = few_after pass.f pass.o rd.entries (nodes_in values) (sources_in values) stand (counts_small pass.f pass.o rd.entries rd.history small);
         };
       }
 

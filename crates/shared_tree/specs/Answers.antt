@@ -1,6 +1,6 @@
 -- What a call on a shared tree comes to: an answer, with one entry of the one history, or that a turn was found held.
 -- This project's own.
-use Rattle.std.specs.Prelude.{◌≡◌, ◌≢◌, ◌<◌, ◌≤◌, ◌⊎◌, ℕ, List, [], ◌∷◌, ◌++◌, map, length, true}
+use Rattle.std.specs.Prelude.{◌≡◌, ◌≢◌, ◌<◌, ◌≤◌, ◌⊎◌, ℕ, List, [], ◌∷◌, ◌++◌, map, length, true, All}
 use Rattle.turn_table.specs.declared.view.View.{View}
 use Rattle.turn_table.specs.declared.view.Met.{Met}
 use Rattle.turn_table.specs.History.{of_caller}
@@ -36,6 +36,12 @@ pub record GrowsByOthers (number : ℕ) (before after : List (List ℕ)) : Type 
   pub others : List (List ℕ)
   pub grows : after ≡ before ++ others
   pub none_own : of_caller number others ≡ []
+
+-- what was met grew by turns that were found held, each of a slot among these
+pub record GrowsAmong (slots : List ℕ) (before after : List Met) : Type 0 where
+  pub items : List Met
+  pub grows : after ≡ before ++ items
+  pub among : All (λ (x : Met). has slots x.slot ≡ true) items
 
 -- The entries behind the opening calls are one legal history: with the opening calls at the front each is right after those before it, no
 -- sample is used twice, and a source is quiet after an alarm.

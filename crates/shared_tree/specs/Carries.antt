@@ -27,7 +27,7 @@ use Rattle.shared_tree.specs.declared.busy.Busy.{Busy}
 use Rattle.shared_tree.specs.declared.machine.SlotValue.{SlotValue}
 use Rattle.shared_tree.specs.Machine.{tree_meaning}
 use Rattle.shared_tree.specs.Rows.{IsAt}
-use Rattle.shared_tree.specs.Answers.{IsBehind, IsSame, lists_of}
+use Rattle.shared_tree.specs.Answers.{GrowsAmong, IsBehind, IsSame, lists_of}
 
 module _ {S : Type 0} (told : S → Option (List ℕ)) (faults : S → ℕ) where
   -- the value of each lease is in the row, and stands for the lease's state
@@ -149,16 +149,17 @@ pub record Meets (p : Tree) (t : ℕ) (c : Call) (string : List ℕ) (busy : Bus
   pub on_path : has (path p t) busy.slot ≡ true
   pub on_target : has (path p busy.target) busy.slot ≡ true
 
--- the pass has seen more, and has the turns that it had
-pub record Stays (v w : View) : Type 0 where
+-- the pass has seen more, has the turns that it had, and has met the slot k alone
+pub record Stays (k : ℕ) (v w : View) : Type 0 where
   pub begins : Begins v.seen w.seen
   pub mine_is : w.mine ≡ v.mine
   pub leases_are : w.leases ≡ v.leases
   pub own : v.mine ≡ of_caller v.number v.seen → w.mine ≡ of_caller w.number w.seen
   pub same : IsSame v w
+  pub met : GrowsAmong (k ∷ []) v.met w.met
 
 -- after a while the turn was taken
 pub record TakesLater {S : Type 0} (told : S → Option (List ℕ)) (faults : S → ℕ) (k target : ℕ) (x : SlotValue S) (v w : View) : Type 0 where
   pub between : View
-  pub stays : Stays v between
+  pub stays : Stays k v between
   pub takes : Takes (tree_meaning told faults) k target x between w

@@ -94,6 +94,7 @@ pub(crate) fn refuse<S: Samples>(
     ensures keeps { Keeps S.told S.faults (what_of row.entry.now) pass.old.view pass.new.view }
     ensures made { Makes S.told S.faults call.entry.now input.entry.now reply.entry.now (take reply.entry.now.len out.entry.now) pass.old.view pass.new.view }
     ensures met { pass.new.view.met ≡ pass.old.view.met }
+    ensures within { reply.entry.now.len ≤ 65536 }
     ensures behind { IsWipedBehind reply.entry.now.len out.entry.now out.entry.now }
 {
     let _plan = plan;
@@ -119,6 +120,7 @@ pub(crate) fn perform<S: Samples>(
     ensures keeps { Keeps S.told S.faults (what_of row.new) pass.old.view pass.new.view }
     ensures made { Makes S.told S.faults call.entry.now input.entry.now result (take result.len out.new) pass.old.view pass.new.view }
     ensures met { pass.new.view.met ≡ pass.old.view.met }
+    ensures within { result.len ≤ 65536 }
     ensures behind { IsWipedBehind result.len out.old out.new }
 {
     let reply = work(plan, row, call, input, out);
@@ -197,6 +199,7 @@ pub(crate) fn climb<S: Samples>(
     ensures keeps { Keeps S.told S.faults (what_of row.new) pass.old.view pass.new.view }
     ensures made { IfOk result (λ r. Makes S.told S.faults call.entry.now input.entry.now r (take r.len out.new) pass.old.view pass.new.view) }
     ensures met { IfOk result (λ _. pass.new.view.met ≡ pass.old.view.met) }
+    ensures within { IfOk result (λ r. r.len ≤ 65536) }
     ensures behind { IfOk result (λ r. IsWipedBehind r.len out.old out.new) }
     ensures busy { IfErr result (λ b. Meets plan.entry.now (target plan.entry.now call.entry.now) call.entry.now input.entry.now b pass.old.view pass.new.view) }
     ensures untouched { IfErr result (λ _. out.new ≡ out.old) }

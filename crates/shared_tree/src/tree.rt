@@ -1,8 +1,10 @@
 // The tree that several callers share.
 ghost use Rattle.std.specs.Prelude.{◌≡◌, ◌<◌, ◌≤◌, ◌^◌, ℕ, List, take, length, IfOk, IfErr, IsOk};
+ghost use Rattle.tree_rules.specs.Slots.{path};
+ghost use Rattle.tree_rules.specs.Chain.{target};
 ghost use Rattle.tree_acts.specs.Wiped.{IsWipedBehind};
 ghost use Rattle.shared_tree.specs.Passes.{IsPassOf};
-ghost use Rattle.shared_tree.specs.Answers.{IsAnswered, IsBusy, IsSame};
+ghost use Rattle.shared_tree.specs.Answers.{GrowsAmong, IsAnswered, IsBusy, IsSame};
 
 use crate::busy::Busy;
 use crate::calls::climb;
@@ -49,8 +51,8 @@ impl<S: Samples> SharedTree<S> {
     /// is read is answered, and is an entry of the history as every other answer.
     ///
     /// After `Busy` no sample was read, the call is in no history, each turn that it took is free again with its value unchanged, and `out` is as
-    /// it was. The slot lies on the path of the call's target and on that of the other, so calls whose paths share no slot never make
-    /// each other busy; and it is a slot of the call's chain, so a call that needs its node alone is busy at that node alone.
+    /// it was. The slot lies on the path of the call's target, and on that of the target for which the other caller has the turn. It is a slot
+    /// of the call's chain, so a call that needs its node alone is busy at that node alone.
     pub fn try_call(
         &self,
         pass: &mut TreePass<S>,
@@ -65,6 +67,7 @@ impl<S: Samples> SharedTree<S> {
         ensures same { IsSame pass.old.view pass.new.view }
         ensures answered { IfOk result (λ r. IsAnswered self.entry.now.plan call.entry.now input.entry.now r (take r.len out.new) pass.old.view pass.new.view) }
         ensures unmet { IfOk result (λ _. pass.new.view.met ≡ pass.old.view.met) }
+        ensures within { IfOk result (λ r. r.len ≤ 65536) }
         ensures behind { IfOk result (λ r. IsWipedBehind r.len out.old out.new) }
         ensures busy { IfErr result (λ b. IsBusy self.entry.now.plan call.entry.now input.entry.now b pass.old.view pass.new.view) }
         ensures untouched { IfErr result (λ _. out.new ≡ out.old) }
@@ -80,7 +83,8 @@ impl<S: Samples> SharedTree<S> {
     }
 
     /// Makes a call with its string, and waits for each turn that it needs, while it keeps those that it has. Turns are taken from the named
-    /// node towards its root. All else is as in [`SharedTree::try_call`].
+    /// node towards its root, and each turn that it finds held is that of a slot on the path of the call's target. All else is as in
+    /// [`SharedTree::try_call`].
     pub fn call<R: Wait>(
         &self,
         rt: &R,
@@ -95,6 +99,8 @@ impl<S: Samples> SharedTree<S> {
         ensures pass { IsPassOf self.entry.now pass.new }
         ensures same { IsSame pass.old.view pass.new.view }
         ensures answered { IsAnswered self.entry.now.plan call.entry.now input.entry.now result (take result.len out.new) pass.old.view pass.new.view }
+        ensures waited { GrowsAmong (path self.entry.now.plan (target self.entry.now.plan call.entry.now)) pass.old.view.met pass.new.view.met }
+        ensures within { result.len ≤ 65536 }
         ensures behind { IsWipedBehind result.len out.old out.new }
     {
         refusals_come_by_the_table();

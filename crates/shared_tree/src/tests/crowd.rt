@@ -236,6 +236,15 @@ fn sources(alloc: Global) -> Result<Vec<Recorded>, Fail> {
     Ok(sources)
 }
 
+// How many outputs each branch gives at least and at most, and how often its node's life ends. The source of the first one alarms. Of the
+// second one a node is asked that may be idle just then.
+const OUTPUTS: [(usize, usize, usize); 4] = [
+    (1_000, 1_999, 0),
+    (990, 1_990, 10),
+    (2_000, 2_000, 0),
+    (2_000, 2_000, 0),
+];
+
 #[test]
 fn eight_callers_get_what_one_gets(rt: HostRuntime) -> Result<(), Fail> {
     let alloc = rt.alloc();
@@ -265,6 +274,12 @@ fn eight_callers_get_what_one_gets(rt: HostRuntime) -> Result<(), Fail> {
         let first = log_of(&logs, branch + 1)?;
         let second = log_of(&logs, branch + 5)?;
         let total = first.outputs.len().saturating_add(second.outputs.len());
+        let (least, most, ends) = OUTPUTS[usize::from(branch)];
+        assert!(rt;
+            least <= total && total <= most,
+            "branch {branch} gave {total} outputs"
+        );
+        assert_eq!(rt; first.ends.len(), ends);
         let outputs = replay(alloc, &mut one, u16::from(branch), total, &first.ends)?;
         assert!(rt;
             is_merged(&outputs, &first.outputs, &second.outputs),

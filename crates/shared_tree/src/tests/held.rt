@@ -1,4 +1,4 @@
-// A caller that is held in a read, and another that calls meanwhile.
+// A caller that is held in a read, and others that call meanwhile.
 ghost use Rattle.std.specs.Prelude.{◌≡◌, ◌<◌, ℕ, All, length, slice_index_or};
 ghost use Rattle.shared_tree.specs.Passes.{IsPassOf, AreReady};
 
@@ -44,7 +44,7 @@ const OF_ONE: [u8; 32] = [
 
 // Whether each node is live afterwards, its reseed counter, seeds and gives, and the samples taken and blocks of each source.
 const NODES: [(bool, u64, u64, u64); 4] = [
-    (true, 2, 2, 2),
+    (true, 3, 2, 3),
     (true, 3, 1, 2),
     (true, 2, 2, 1),
     (true, 2, 1, 1),
@@ -66,6 +66,23 @@ fn is_done<R: Wait>(
 {
     match ask(rt, tree, pass, call) {
         Some(said) => said.gives(want),
+        None => false,
+    }
+}
+
+// Makes a call that waits, and is Done.
+fn is_answered<R: Wait>(
+    rt: &R,
+    tree: &SharedTree<Gated>,
+    pass: &mut TreePass<Gated>,
+    call: Call,
+) -> bool
+    requires pass { IsPassOf tree.now pass.old }
+    ensures pass { IsPassOf tree.entry.now pass.new }
+    ensures opening { pass.new.view.opening ≡ pass.old.view.opening }
+{
+    match ask(rt, tree, pass, call) {
+        Some(said) => said.code == 0,
         None => false,
     }
 }
@@ -104,7 +121,8 @@ fn is_done_at_once(
     }
 }
 
-// The first caller asks node 2 for bytes with prediction resistance, and its source holds the read. Meanwhile the second one calls.
+// The first caller asks node 2 for bytes with prediction resistance, and its source holds the read. Meanwhile the third one waits for the
+// turn of node 0, and the second one calls.
 fn play<R: Wait>(
     rt: &R,
     tree: &SharedTree<Gated>,
@@ -121,10 +139,15 @@ fn play<R: Wait>(
         return;
     }
     score.add(gate.is_reached());
+    if pass.caller() == 3 {
+        score.add(is_answered(rt, tree, pass, generate(0, false)));
+        return;
+    }
     score.add(is_done(rt, tree, pass, generate(3, false), &OF_THREE));
     score.add(is_done_at_once(tree, pass, generate(1, false), &OF_ONE));
     score.add(is_busy(tree, pass, generate(2, false), 2));
     score.add(is_busy(tree, pass, generate(0, false), 0));
+    score.add(is_busy(tree, pass, Call::Start { source: 0 }, 4));
     gate.open();
 }
 
@@ -140,7 +163,7 @@ fn play_each<R: Threads + Wait + Sync>(
     ensures same { (i : ℕ) (d : _) → i < length passes.old → (slice_index_or passes.new i d).view.opening ≡ (slice_index_or passes.old i d).view.opening }
     ensures count { length passes.new ≡ length passes.old }
 {
-    thread::for_each_mut(rt, passes, 2, &|_, pass| play(rt, tree, gate, score, pass));
+    thread::for_each_mut(rt, passes, 3, &|_, pass| play(rt, tree, gate, score, pass));
 }
 
 #[tactic(auto, using(crate::proofs::Ready::ready_on, crate::proofs::Ready::passes_of))]
@@ -169,18 +192,18 @@ fn branches_do_not_wait_for_each_other(rt: HostRuntime) -> Result<(), Fail> {
             gate: Arc::try_clone(&gate)?,
         })?;
     }
-    let (tree, mut passes) = shared(alloc, read(alloc, PAIRS)?, sources, 2)?;
+    let (tree, mut passes) = shared(alloc, read(alloc, PAIRS)?, sources, 3)?;
     let score = Score {
         right: AtomicU64::new(0),
     };
     gate.shut();
     play_all(&rt, &tree, &*gate, &score, passes.as_mut_slice());
-    assert_eq!(rt; score.right.load(Ordering::SeqCst), 6);
+    assert_eq!(rt; score.right.load(Ordering::SeqCst), 9);
     assert!(rt; !gate.was_late());
     let Ok(closed) = tree.close(alloc, passes) else {
         return Err(Fail::from("no memory"));
     };
-    assert_eq!(rt; (closed.calls, closed.tree.calls()), (3, 0));
+    assert_eq!(rt; (closed.calls, closed.tree.calls()), (4, 0));
     for node in 0..closed.tree.plan().nodes() {
         let counts = closed.tree.node_counts(node);
         let got = (counts.live, counts.counter, counts.seeds, counts.gives);

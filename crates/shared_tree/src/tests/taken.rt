@@ -8,7 +8,7 @@ use super::asking::{Said, generate, try_ask};
 use super::plans::{PAIRS, ramp, read, shared};
 use crate::{Busy, SharedTree, SlotValue, TreePass};
 use sample_source::{Recorded, Samples};
-use std::alloc::Global;
+use std::process::Abort;
 use std::test::Fail;
 use tree_core::Call;
 
@@ -67,10 +67,11 @@ fn last_pass<S: Samples>(
 // held, and a third one when it is given back.
 #[tactic(auto, using(crate::proofs::Ready::passes_of))]
 fn told_beside(
-    alloc: Global,
+    rt: &(impl Abort + AllocGlobal),
     held: u16,
     calls: [Call; 3],
 ) -> Result<[Result<Said, Busy>; 3], Fail> {
+    let alloc = rt.alloc();
     let mut sources = Vec::new(alloc);
     for _ in 0..2 {
         sources.push(Recorded::new(ramp(alloc, 65536, 0)?))?;
@@ -81,7 +82,10 @@ fn told_beside(
     if held >= tree.plan.nodes() {
         return Err(Fail::from("no such node"));
     }
-    let _ = told(&tree, &mut first, generate(2, false))?;
+    match told(&tree, &mut first, generate(2, false))? {
+        Ok(said) => assert_eq!(rt; said.code, 0),
+        Err(_) => return Err(Fail::from("busy")),
+    }
     let Some(value) = hold(&tree, &mut first, held) else {
         return Err(Fail::from("not taken"));
     };
@@ -103,10 +107,9 @@ fn status(node: u16) -> Call {
 
 #[test]
 fn a_call_needs_the_turns_of_its_chain(rt: HostRuntime) -> Result<(), Fail> {
-    let alloc = rt.alloc();
     // Node 2 is held. A call on its parent needs the parent alone; one on the node itself finds it held, and is answered afterwards.
     let calls = [Call::Uninstantiate { node: 0 }, status(2), status(2)];
-    let [Ok(ended), Err(busy), Ok(after)] = told_beside(alloc, 2, calls)? else {
+    let [Ok(ended), Err(busy), Ok(after)] = told_beside(&rt, 2, calls)? else {
         return Err(Fail::from("other answers"));
     };
     let want = Busy {
@@ -118,7 +121,7 @@ fn a_call_needs_the_turns_of_its_chain(rt: HostRuntime) -> Result<(), Fail> {
     assert_eq!(rt; (ended.code, after.code), (0, 0));
     // Node 0 is held. A call that draws on it from node 2 gives the turn of node 2 back, and node 2 is as it was.
     let calls = [generate(2, true), status(2), generate(2, true)];
-    let [Err(busy), Ok(beside), Ok(after)] = told_beside(alloc, 0, calls)? else {
+    let [Err(busy), Ok(beside), Ok(after)] = told_beside(&rt, 0, calls)? else {
         return Err(Fail::from("other answers"));
     };
     let want = Busy {

@@ -1,4 +1,4 @@
-use Rattle.std.proofs.Common.{ℕ, sym, subst}
+use Rattle.std.proofs.Common.{ℕ, sym, subst, arith}
 use Rattle.std.specs.Prelude.{take}
 use Rattle.tree_rules.specs.Chain.{target}
 use Rattle.tree_rules.specs.Replies.{chain_of}
@@ -45,3 +45,9 @@ returns-clause-behind g c =
     let p = c.args.plan.now in let now = states_held g.S.Samples.told g.S.Samples.faults (what_of c.args.row.now) in
     let none = bare_refusal p c.args.call.now c.args.input.now (chain_of p now c.args.call.now c.args.input.now) c.args.reply.now c.requires.refused.1 in
     subst (λ (n : ℕ). IsWipedBehind n c.args.out.now c.args.out.now) (sym none) (kept c.args.out.now)
+
+pub returns-clause-within : goal.returns-clause-within
+returns-clause-within g c =
+    let p = c.args.plan.now in let now = states_held g.S.Samples.told g.S.Samples.faults (what_of c.args.row.now) in
+    let none = bare_refusal p c.args.call.now c.args.input.now (chain_of p now c.args.call.now c.args.input.now) c.args.reply.now c.requires.refused.1 in
+    omega (arith, none)

@@ -25,7 +25,7 @@ of_parts-tree-requires-clause-few g c =
     let there : 0 < length c.args.passes.items = (let a = c.requires.all in let b = ap (λ (z : SharedView). z.callers) c.self.view_is in let d = c.self.invariant.1 in omega (arith, a, b, d)) in
     let l = left_as g.S.Samples.told g.S.Samples.faults t c.args.passes.items c.in-Ok-close.field-0.calls c.in-Ok-close.field-0.values.items c.sort.new.nodes.items c.sort.new.sources.items
     ready there (c.in-Ok-close.ensures.count ∙ c.self.invariant.0) c.in-Ok-close.ensures.closed c.sort.ensures.nodes c.sort.ensures.sources in
-    l.few
+    l.closed.few_counts
 
 pub returns-in-Ok-close-clause-closed : goal.returns-in-Ok-close-clause-closed
 returns-in-Ok-close-clause-closed g c =
