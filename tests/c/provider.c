@@ -389,7 +389,7 @@ static void reseeds_in_a_forked_process(const struct kind *k)
 {
     unsigned char entropy[32], nonce[16], ours[32], theirs[32], in_child[32];
     struct pair a = pair_of(k, "provider=rbgtree", 0, 0), b = pair_of(k, "provider=default", 0, 0);
-    int ends[2], status = 1;
+    int ends[2] = {-1, -1}, status = 1;
     fill(entropy, sizeof entropy);
     fill(nonce, sizeof nonce);
     expect(begin_pair(&a, entropy, 32, nonce, 16) && begin_pair(&b, entropy, 32, nonce, 16) && same_bytes(a.drbg, b.drbg) &&
@@ -461,7 +461,7 @@ static void reseeds_a_forked_chain(const struct kind *k)
 {
     struct chain c = chain_of(k, 0);
     unsigned char bytes[32], in_child[32];
-    int ends[2], status = 1;
+    int ends[2] = {-1, -1}, status = 1;
     expect(next_bytes(c.lower, bytes, 32) && pipe(ends) == 0, "the chain gives", k->value, 0);
     long long upper = reseeds_of(c.upper), lower = reseeds_of(c.lower);
     fflush(stdout);
