@@ -1,18 +1,21 @@
 /* rbg.h: HMAC_DRBG and CTR_DRBG (NIST SP 800-90A Rev. 1) and the continuous health tests (SP 800-90B 4.4) as a library without heap,
  * threads or system calls, for C99 and C++.
  *
- * Each function is proved to be the standard's for every call that keeps these rules, which no proof in the library can see:
+ * What each function does is proved (docs/PROVED.md) for every call that keeps these rules, which no proof in the library can see:
  *
- *  - a pointer is to as many bytes as its length says, and a pointer to a struct or a number to a whole one. Where the length is 0
- *    the pointer may be NULL, which is an empty string;
- *  - what a call writes (a state, a counter, an output) overlaps nothing else that it is given;
- *  - one state is in one call at a time: it belongs to one thread, or a lock guards it.
+ *  - a pointer is to as many bytes as its length says, and a pointer to a struct or a number to a whole one, aligned as its type
+ *    asks. Where the length is 0 the pointer may be NULL, which is an empty string;
+ *  - what a call writes (a state, tests, an output, and the number behind counter, at or cutoff) overlaps nothing else that it is given;
+ *  - one state is in one call at a time: it belongs to one thread, or a lock guards it. The same holds of the tests.
  *
  * A state is plain bytes, as secret as the output. A copy of it repeats the output of the original. So it does after fork(), where
  * the new process has to reseed before it asks for more.
  *
- * A call answers a status. RBG_DONE says that it did its work. Every other one is a refusal, which leaves the state, the counter and
- * the output as they were (an alarm of a health test is no refusal: it is kept). Where several causes stand together the first is told, in the order that is given at the call.
+ * A call answers a status. RBG_DONE says that it did its work. Every other one is a refusal, which leaves all that the call may write
+ * as it was. (RBG_REPETITION and RBG_PROPORTION are no refusals: the alarm is kept.) Where several causes stand together the first is
+ * told, in the order that is given at the call.
+ *
+ * Numbers in brackets are sections of SP 800-90A Rev. 1, at the health tests of SP 800-90B.
  */
 #ifndef RBG_H
 #define RBG_H
@@ -93,7 +96,8 @@ uint32_t rbg_drbg_reseed(struct rbg_drbg *state, const uint8_t *entropy, size_t 
 
 /* Fills out with out_len bytes, at most RBG_MAX_LEN, after mixing in the additional input where there is any, and adds 1 to the counter
  * (9.3, 10.1.2.5, 10.2.1.5.2). The interval, 1 to RBG_MAX_INTERVAL, is how many generates one seed serves; it may differ from call to
- * call.
+ * call. Where the counter is above it the answer is RBG_RESEED_REQUIRED (step 1 of both), and the caller reseeds and asks again
+ * (9.3.1, step 9).
  *
  * RBG_BAD_STATE, RBG_LONG_STRING, RBG_BAD_INTERVAL, RBG_LONG_OUTPUT, RBG_RESEED_REQUIRED where the counter is above the interval. */
 uint32_t rbg_drbg_generate(struct rbg_drbg *state, const uint8_t *additional, size_t additional_len, uint64_t interval,
@@ -111,7 +115,8 @@ uint32_t rbg_drbg_generate_fresh(struct rbg_drbg *state, const uint8_t *entropy,
  * RBG_BAD_STATE. */
 uint32_t rbg_drbg_counter(const struct rbg_drbg *state, uint64_t *counter);
 
-/* Whether a generate under this interval would be refused for its counter: RBG_RESEED_REQUIRED where it would, else RBG_DONE.
+/* Whether a generate under this interval would be refused for its counter: RBG_RESEED_REQUIRED where it would, else RBG_DONE (9.3,
+ * 10.1.2.5, step 1, and 10.2.1.5.2, step 1).
  *
  * RBG_BAD_STATE, RBG_BAD_INTERVAL. */
 uint32_t rbg_drbg_due(const struct rbg_drbg *state, uint64_t interval);
@@ -139,20 +144,20 @@ typedef char rbg_tests_alarm_is_at_12[offsetof(struct rbg_tests, alarm) == 12 ? 
 typedef char rbg_tests_window_is_at_16[offsetof(struct rbg_tests, window) == 16 ? 1 : -1];
 typedef char rbg_tests_last_is_at_22[offsetof(struct rbg_tests, last) == 22 ? 1 : -1];
 
-/* Begins the tests: rct equal samples in a row alarm, at least 2 (4.4.1), and so do apt samples in a window that equal its first, at least
- * 2 and at most the window, which is 512 for samples of several values and 1024 for binary ones (4.4.2).
+/* Begins the tests. A run of rct equal samples alarms (4.4.1), and so do apt samples of a window that equal its first, which counts
+ * among them (4.4.2). rct is at least 2; apt is 2 to the window, which is 512 for samples of several values and 1024 for binary ones.
  *
  * RBG_BAD_RCT, RBG_BAD_WINDOW, RBG_BAD_APT. */
 uint32_t rbg_tests_begin(struct rbg_tests *tests, uint32_t rct, uint16_t window, uint16_t apt);
 
-/* Takes one sample more. RBG_REPETITION or RBG_PROPORTION at the very sample that reaches a cutoff, repetition where both do; the alarm is
- * kept, and the tests are to be begun anew.
+/* Takes one sample more (4.4.1, 4.4.2). RBG_REPETITION or RBG_PROPORTION at the very sample that reaches a cutoff, repetition where both
+ * do; the alarm is kept, all other numbers stay as they were before the sample, and the tests are to be begun anew.
  *
  * RBG_BAD_TESTS, RBG_ALARMED. */
 uint32_t rbg_tests_step(struct rbg_tests *tests, uint8_t sample);
 
-/* Takes samples in a row, up to the first that alarms, whose place among them, counted from 0, is written to at. Without an alarm at is left
- * as it was.
+/* Takes samples in a row, up to the first that alarms, whose place among them, counted from 0, is written to at. Without an alarm at is
+ * left as it was. After one the alarm is kept, and all other numbers stay as they were before the call: they count none of its samples.
  *
  * RBG_BAD_TESTS, RBG_ALARMED. */
 uint32_t rbg_tests_step_all(struct rbg_tests *tests, const uint8_t *samples, size_t samples_len, size_t *at);

@@ -1,7 +1,7 @@
 /* random_hex BYTES: prints so many random bytes in hexadecimal, by HMAC_DRBG over SHA-256 seeded from the system.
  *
  * An example to copy from: instantiate with entropy and a nonce, ask for at most RBG_MAX_LEN bytes at a time, reseed where the
- * library asks for it, look at each status, and clear what is secret.
+ * library asks for it, look at each status, and clear what is secret on every way out.
  *
  *   cc -std=c99 -Iinclude clients/c/random_hex.c crates/rbg/out/librbg.a -o random_hex
  */
@@ -17,14 +17,9 @@
 /* How many generates one seed serves. The standard allows up to RBG_MAX_INTERVAL. */
 #define INTERVAL 1000
 
-static void fail(const char *what)
-{
-    fprintf(stderr, "random_hex: %s\n", what);
-    exit(1);
-}
-
-/* Fills a buffer from the system, which gives at most 256 bytes in one call for sure. */
-static void draw(uint8_t *out, size_t len)
+/* Fills a buffer from the system, which gives at most 256 bytes in one call for sure. Each function here answers NULL where it
+ * did its work, and else what went wrong. */
+static const char *draw(uint8_t *out, size_t len)
 {
     size_t done = 0;
     while (done < len) {
@@ -33,65 +28,90 @@ static void draw(uint8_t *out, size_t len)
         if (got > 0)
             done += (size_t)got;
         else if (got == 0 || errno != EINTR)
-            fail("the system gives no random bytes");
+            return "the system gives no random bytes";
     }
+    return NULL;
 }
 
-static void reseed(struct rbg_drbg *state)
-{
-    uint8_t entropy[32];
-    draw(entropy, sizeof entropy);
-    if (rbg_drbg_reseed(state, entropy, sizeof entropy, NULL, 0) != RBG_DONE)
-        fail("the reseed was refused");
-    explicit_bzero(entropy, sizeof entropy);
-}
-
-static void start(struct rbg_drbg *state)
+static const char *start(struct rbg_drbg *state)
 {
     static const uint8_t personalization[] = "random_hex";
     uint8_t entropy[32], nonce[16];
-    draw(entropy, sizeof entropy);
-    draw(nonce, sizeof nonce);
-    if (rbg_drbg_instantiate(state, RBG_HMAC_SHA_256, entropy, sizeof entropy, nonce, sizeof nonce, personalization,
-                             sizeof personalization - 1) != RBG_DONE)
-        fail("the instantiation was refused");
+    const char *wrong = draw(entropy, sizeof entropy);
+    if (wrong == NULL)
+        wrong = draw(nonce, sizeof nonce);
+    if (wrong == NULL && rbg_drbg_instantiate(state, RBG_HMAC_SHA_256, entropy, sizeof entropy, nonce, sizeof nonce,
+                                              personalization, sizeof personalization - 1) != RBG_DONE)
+        wrong = "the instantiation was refused";
     explicit_bzero(entropy, sizeof entropy);
+    explicit_bzero(nonce, sizeof nonce);
+    return wrong;
 }
 
-static void give(struct rbg_drbg *state, uint8_t *out, size_t len)
+static const char *reseed(struct rbg_drbg *state)
+{
+    uint8_t entropy[32];
+    const char *wrong = draw(entropy, sizeof entropy);
+    if (wrong == NULL && rbg_drbg_reseed(state, entropy, sizeof entropy, NULL, 0) != RBG_DONE)
+        wrong = "the reseed was refused";
+    explicit_bzero(entropy, sizeof entropy);
+    return wrong;
+}
+
+static const char *give(struct rbg_drbg *state, uint8_t *out, size_t len)
 {
     uint32_t status = rbg_drbg_generate(state, NULL, 0, INTERVAL, out, len);
     if (status == RBG_RESEED_REQUIRED) {
-        reseed(state);
+        const char *wrong = reseed(state);
+        if (wrong != NULL)
+            return wrong;
         status = rbg_drbg_generate(state, NULL, 0, INTERVAL, out, len);
     }
-    if (status != RBG_DONE)
-        fail("the generate was refused");
+    return status == RBG_DONE ? NULL : "the generate was refused";
+}
+
+/* Prints so many bytes, piece by piece. */
+static const char *print(struct rbg_drbg *state, unsigned long long left)
+{
+    uint8_t piece[4096];
+    const char *wrong = NULL;
+    while (wrong == NULL && left > 0) {
+        size_t len = left < sizeof piece ? (size_t)left : sizeof piece;
+        wrong = give(state, piece, len);
+        for (size_t i = 0; wrong == NULL && i < len; i++)
+            printf("%02x", piece[i]);
+        if (wrong == NULL && ferror(stdout))
+            wrong = "the output cannot be written";
+        left -= len;
+    }
+    explicit_bzero(piece, sizeof piece);
+    return wrong;
+}
+
+static int usage(void)
+{
+    fputs("usage: random_hex BYTES\n", stderr);
+    return 2;
 }
 
 int main(int argc, char **argv)
 {
     struct rbg_drbg state;
-    uint8_t piece[4096];
+    const char *wrong;
     char *end;
     if (argc != 2 || argv[1][0] < '0' || argv[1][0] > '9')
-        fail("usage: random_hex BYTES");
+        return usage();
     errno = 0;
-    unsigned long long left = strtoull(argv[1], &end, 10);
+    unsigned long long bytes = strtoull(argv[1], &end, 10);
     if (errno != 0 || *end != '\0')
-        fail("usage: random_hex BYTES");
-    start(&state);
-    while (left > 0) {
-        size_t len = left < sizeof piece ? (size_t)left : sizeof piece;
-        give(&state, piece, len);
-        for (size_t i = 0; i < len; i++)
-            printf("%02x", piece[i]);
-        left -= len;
-    }
-    putchar('\n');
+        return usage();
+    wrong = start(&state);
+    if (wrong == NULL)
+        wrong = print(&state, bytes);
     rbg_drbg_clear(&state);
-    explicit_bzero(piece, sizeof piece);
-    if (fflush(stdout) != 0)
-        fail("the output cannot be written");
-    return 0;
+    if (wrong == NULL && (putchar('\n') == EOF || fflush(stdout) != 0 || ferror(stdout)))
+        wrong = "the output cannot be written";
+    if (wrong != NULL)
+        fprintf(stderr, "random_hex: %s\n", wrong);
+    return wrong != NULL;
 }

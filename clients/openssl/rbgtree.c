@@ -8,6 +8,7 @@
  *   cc -O2 -fPIC -shared -Iinclude clients/openssl/rbgtree.c crates/rbg/out/librbg.a -lcrypto -o rbgtree.so
  */
 #include <limits.h>
+#include <stdatomic.h>
 #include <string.h>
 #include <strings.h>
 #include <time.h>
@@ -120,15 +121,15 @@ static void unlock_parent(struct drbg *d)
         d->parent.unlock(d->parent.rand);
 }
 
-/* A number of the parent's, or the other one where it has none. */
-static int parent_number(struct drbg *d, const char *name, unsigned int other, unsigned int *number)
+/* A number of the parent's, or 0 where it has none. */
+static int parent_number(struct drbg *d, const char *name, unsigned int *number)
 {
     OSSL_PARAM params[] = {OSSL_PARAM_construct_uint(name, number), OSSL_PARAM_construct_end()};
     if (!lock_parent(d))
         return 0;
-    *number = other;
+    *number = 0;
     if (d->parent.get_ctx_params == NULL || !d->parent.get_ctx_params(d->parent.rand, params))
-        *number = other;
+        *number = 0;
     unlock_parent(d);
     return 1;
 }
@@ -138,13 +139,15 @@ static size_t get_entropy(struct drbg *d, unsigned char **out, int bits, size_t 
     unsigned int strength;
     size_t len;
     if (d->parent.rand == NULL)
-        return d->provider->get_entropy == NULL
+        return d->provider->get_entropy == NULL || d->provider->cleanup_entropy == NULL
                    ? 0
                    : d->provider->get_entropy(d->provider->core, out, bits, min_len, RBG_MAX_LEN);
     if (d->parent.get_seed == NULL)
         return (size_t)refuse(PROV_R_PARENT_CANNOT_SUPPLY_ENTROPY_SEED);
-    if (!parent_number(d, OSSL_RAND_PARAM_STRENGTH, 0, &strength))
+    if (!parent_number(d, OSSL_RAND_PARAM_STRENGTH, &strength))
         return 0;
+    if (strength == 0)
+        return (size_t)refuse(PROV_R_UNABLE_TO_GET_PARENT_STRENGTH);
     if (strength < d->kind->strength)
         return (size_t)refuse(PROV_R_PARENT_STRENGTH_TOO_WEAK);
     if (!lock_parent(d))
@@ -155,14 +158,55 @@ static size_t get_entropy(struct drbg *d, unsigned char **out, int bits, size_t 
     return len;
 }
 
+/* Gives a seed back to where it came from, to be wiped and freed. A parent that takes none back owns it. */
 static void give_back_entropy(struct drbg *d, unsigned char *entropy, size_t len)
 {
     if (entropy == NULL)
         return;
-    if (d->parent.rand == NULL)
+    if (d->parent.rand == NULL) {
         d->provider->cleanup_entropy(d->provider->core, entropy, len);
-    else if (d->parent.clear_seed != NULL)
-        d->parent.clear_seed(d->parent.rand, entropy, len);
+    } else if (d->parent.clear_seed != NULL) {
+        if (lock_parent(d)) {
+            d->parent.clear_seed(d->parent.rand, entropy, len);
+            unlock_parent(d);
+        } else {
+            OPENSSL_cleanse(entropy, len);
+        }
+    }
+}
+
+/* Entropy of at least so many bits and bytes, to be given back, or NULL. */
+static unsigned char *draw(struct drbg *d, int bits, size_t min_len, int fresh, size_t *len)
+{
+    unsigned char *entropy = NULL;
+    *len = get_entropy(d, &entropy, bits, min_len, fresh);
+    if (entropy != NULL && *len >= min_len && *len <= RBG_MAX_LEN)
+        return entropy;
+    give_back_entropy(d, entropy, *len);
+    refuse(PROV_R_ERROR_RETRIEVING_ENTROPY);
+    return NULL;
+}
+
+/* The core's nonce. It is made of a salt that no other context and no other instantiation in this process has, of the process and
+ * of the time. */
+static int core_nonce(struct drbg *d, unsigned char **nonce, size_t *len)
+{
+    static _Atomic uint64_t nonces;
+    struct {
+        const void *drbg;
+        uint64_t count;
+    } salt;
+    unsigned char *given = NULL;
+    memset(&salt, 0, sizeof salt);
+    salt.drbg = d;
+    salt.count = atomic_fetch_add(&nonces, 1);
+    if (d->provider->get_nonce != NULL && d->provider->cleanup_nonce != NULL)
+        *len = d->provider->get_nonce(d->provider->core, &given, min_nonce_len(d), RBG_MAX_LEN, &salt, sizeof salt);
+    if (given != NULL && *len >= min_nonce_len(d) && *len <= RBG_MAX_LEN)
+        *nonce = OPENSSL_memdup(given, *len);
+    if (given != NULL)
+        d->provider->cleanup_nonce(d->provider->core, given, *len);
+    return *nonce != NULL || refuse(PROV_R_ERROR_RETRIEVING_NONCE);
 }
 
 /* The nonce that the parent gives, or the core where there is no parent. A parent without nonces gives more entropy instead (SP
@@ -172,21 +216,10 @@ static int get_nonce(struct drbg *d, unsigned char **nonce, size_t *len)
     size_t want = min_nonce_len(d);
     *nonce = NULL;
     *len = 0;
-    if (d->parent.rand != NULL && d->parent.nonce == NULL)
+    if (d->parent.rand == NULL)
+        return core_nonce(d, nonce, len);
+    if (d->parent.nonce == NULL)
         return 1;
-    if (d->parent.rand == NULL) {
-        unsigned char *given = NULL;
-        struct {
-            const void *drbg;
-            unsigned int count;
-        } salt = {d, d->reseeds};
-        if (d->provider->get_nonce != NULL)
-            *len = d->provider->get_nonce(d->provider->core, &given, want, RBG_MAX_LEN, &salt, sizeof salt);
-        *nonce = *len >= want ? OPENSSL_memdup(given, *len) : NULL;
-        if (given != NULL)
-            d->provider->cleanup_nonce(d->provider->core, given, *len);
-        return *nonce != NULL || refuse(PROV_R_ERROR_RETRIEVING_NONCE);
-    }
     *len = d->parent.nonce(d->parent.rand, NULL, d->kind->strength, want, RBG_MAX_LEN);
     if (*len < want || *len > RBG_MAX_LEN || (*nonce = OPENSSL_malloc(*len)) == NULL)
         return refuse(PROV_R_ERROR_RETRIEVING_NONCE);
@@ -199,18 +232,26 @@ static int get_nonce(struct drbg *d, unsigned char **nonce, size_t *len)
 
 /* Seeding. */
 
+/* Ends a context's state for good: the next call that needs one instantiates anew. */
+static int fail(struct drbg *d)
+{
+    rbg_drbg_clear(&d->state);
+    d->phase = EVP_RAND_STATE_ERROR;
+    return 0;
+}
+
 static int was_seeded(struct drbg *d)
 {
     d->phase = EVP_RAND_STATE_READY;
     d->seeded_at = time(NULL);
     d->process = getpid();
     d->reseeds = d->reseeds == UINT_MAX ? 1 : d->reseeds + 1;
-    return d->parent.rand == NULL || parent_number(d, OSSL_DRBG_PARAM_RESEED_COUNTER, 0, &d->parent_reseeds);
+    return d->parent.rand == NULL || parent_number(d, OSSL_DRBG_PARAM_RESEED_COUNTER, &d->parent_reseeds) || fail(d);
 }
 
 static int begin(struct drbg *d, int fresh, const unsigned char *personalization, size_t personalization_len)
 {
-    unsigned char *entropy = NULL, *nonce;
+    unsigned char *entropy, *nonce;
     size_t entropy_len, nonce_len, min_len = min_entropy_len(d);
     int bits = (int)d->kind->strength;
     uint32_t status = RBG_BAD_STATE;
@@ -220,49 +261,50 @@ static int begin(struct drbg *d, int fresh, const unsigned char *personalization
     }
     if (personalization_len > RBG_MAX_LEN)
         return refuse(PROV_R_PERSONALISATION_STRING_TOO_LONG);
-    d->phase = EVP_RAND_STATE_ERROR;
+    fail(d);
     if (!get_nonce(d, &nonce, &nonce_len))
         return 0;
     if (nonce == NULL) {
         bits += bits / 2;
         min_len += min_nonce_len(d);
     }
-    entropy_len = get_entropy(d, &entropy, bits, min_len, fresh);
-    if (entropy_len >= min_len && entropy_len <= RBG_MAX_LEN)
+    if ((entropy = draw(d, bits, min_len, fresh, &entropy_len)) != NULL) {
         status = rbg_drbg_instantiate(&d->state, d->kind->number, entropy, entropy_len, nonce, nonce_len, personalization,
                                       personalization_len);
-    give_back_entropy(d, entropy, entropy_len);
+        give_back_entropy(d, entropy, entropy_len);
+        if (status != RBG_DONE)
+            refuse(PROV_R_ERROR_INSTANTIATING_DRBG);
+    }
     OPENSSL_clear_free(nonce, nonce_len);
-    if (status != RBG_DONE)
-        return refuse(PROV_R_ERROR_INSTANTIATING_DRBG);
-    return was_seeded(d) || (d->phase = EVP_RAND_STATE_ERROR, 0);
+    return status == RBG_DONE && was_seeded(d);
 }
 
+/* Reseeds with what the caller gives, where it gives some, and then with what is drawn. */
 static int reseed(struct drbg *d, int fresh, const unsigned char *given, size_t given_len, const unsigned char *additional,
                   size_t additional_len)
 {
-    unsigned char *entropy = NULL;
+    unsigned char *entropy;
     size_t len;
-    uint32_t status = RBG_DONE;
+    uint32_t status;
+    if (additional == NULL)
+        additional_len = 0;
     if (additional_len > RBG_MAX_LEN)
         return refuse(PROV_R_ADDITIONAL_INPUT_TOO_LONG);
-    d->phase = EVP_RAND_STATE_ERROR;
     if (given != NULL) {
         if (given_len < min_entropy_len(d) || given_len > RBG_MAX_LEN)
-            return refuse(PROV_R_INVALID_SEED_LENGTH);
-        status = rbg_drbg_reseed(&d->state, given, given_len, additional, additional_len);
+            return fail(d) || refuse(PROV_R_INVALID_SEED_LENGTH);
+        if (rbg_drbg_reseed(&d->state, given, given_len, additional, additional_len) != RBG_DONE)
+            return fail(d) || refuse(PROV_R_UNABLE_TO_RESEED);
         additional = NULL;
         additional_len = 0;
     }
-    len = get_entropy(d, &entropy, (int)d->kind->strength, min_entropy_len(d), fresh);
-    if (len < min_entropy_len(d) || len > RBG_MAX_LEN)
-        status = RBG_BAD_STATE;
-    if (status == RBG_DONE)
-        status = rbg_drbg_reseed(&d->state, entropy, len, additional, additional_len);
+    if ((entropy = draw(d, (int)d->kind->strength, min_entropy_len(d), fresh, &len)) == NULL)
+        return fail(d);
+    status = rbg_drbg_reseed(&d->state, entropy, len, additional, additional_len);
     give_back_entropy(d, entropy, len);
     if (status != RBG_DONE)
-        return refuse(PROV_R_RESEED_ERROR);
-    return was_seeded(d) || (d->phase = EVP_RAND_STATE_ERROR, 0);
+        return fail(d) || refuse(PROV_R_RESEED_ERROR);
+    return was_seeded(d);
 }
 
 static int has_kind(const struct drbg *d)
@@ -275,7 +317,6 @@ static int make_ready(struct drbg *d)
 {
     if (d->phase == EVP_RAND_STATE_READY)
         return 1;
-    rbg_drbg_clear(&d->state);
     return has_kind(d) && begin(d, 0, NULL, 0);
 }
 
@@ -292,7 +333,7 @@ static int needs_reseed(struct drbg *d)
         if (now < d->seeded_at || now - d->seeded_at >= d->seconds)
             return 1;
     }
-    return d->parent.rand != NULL && (!parent_number(d, OSSL_DRBG_PARAM_RESEED_COUNTER, 0, &parent_reseeds) ||
+    return d->parent.rand != NULL && (!parent_number(d, OSSL_DRBG_PARAM_RESEED_COUNTER, &parent_reseeds) ||
                                       parent_reseeds != d->parent_reseeds);
 }
 
@@ -304,6 +345,8 @@ static int drbg_generate(void *rand, unsigned char *out, size_t len, unsigned in
     struct drbg *d = rand;
     if (!make_ready(d))
         return 0;
+    if (additional == NULL)
+        additional_len = 0;
     if (strength > d->kind->strength)
         return refuse(PROV_R_INSUFFICIENT_DRBG_STRENGTH);
     if (len > RBG_MAX_LEN)
@@ -318,8 +361,7 @@ static int drbg_generate(void *rand, unsigned char *out, size_t len, unsigned in
     }
     if (rbg_drbg_generate(&d->state, additional, additional_len, RBG_MAX_INTERVAL, out, len) == RBG_DONE)
         return 1;
-    d->phase = EVP_RAND_STATE_ERROR;
-    return refuse(PROV_R_GENERATE_ERROR);
+    return fail(d) || refuse(PROV_R_GENERATE_ERROR);
 }
 
 static int drbg_reseed(void *rand, int fresh, const unsigned char *given, size_t given_len, const unsigned char *additional,
@@ -433,18 +475,24 @@ static int drbg_set_ctx_params(void *rand, const OSSL_PARAM params[])
     return 1;
 }
 
-static const OSSL_PARAM *drbg_settable_ctx_params(void *rand, void *provider)
+static const OSSL_PARAM *hmac_settable_ctx_params(void *rand, void *provider)
 {
-    static const OSSL_PARAM hmac[] = {
+    static const OSSL_PARAM params[] = {
         OSSL_PARAM_utf8_string(OSSL_DRBG_PARAM_PROPERTIES, NULL, 0), OSSL_PARAM_utf8_string(OSSL_DRBG_PARAM_DIGEST, NULL, 0),
         OSSL_PARAM_utf8_string(OSSL_DRBG_PARAM_MAC, NULL, 0), OSSL_PARAM_uint(OSSL_DRBG_PARAM_RESEED_REQUESTS, NULL),
         OSSL_PARAM_uint64(OSSL_DRBG_PARAM_RESEED_TIME_INTERVAL, NULL), OSSL_PARAM_END};
-    static const OSSL_PARAM ctr[] = {
+    (void)rand, (void)provider;
+    return params;
+}
+
+static const OSSL_PARAM *ctr_settable_ctx_params(void *rand, void *provider)
+{
+    static const OSSL_PARAM params[] = {
         OSSL_PARAM_utf8_string(OSSL_DRBG_PARAM_PROPERTIES, NULL, 0), OSSL_PARAM_utf8_string(OSSL_DRBG_PARAM_CIPHER, NULL, 0),
         OSSL_PARAM_int(OSSL_DRBG_PARAM_USE_DF, NULL), OSSL_PARAM_uint(OSSL_DRBG_PARAM_RESEED_REQUESTS, NULL),
         OSSL_PARAM_uint64(OSSL_DRBG_PARAM_RESEED_TIME_INTERVAL, NULL), OSSL_PARAM_END};
-    (void)provider;
-    return rand != NULL && ((struct drbg *)rand)->kinds == ctr_kinds ? ctr : hmac;
+    (void)rand, (void)provider;
+    return params;
 }
 
 static int get_param(const struct drbg *d, OSSL_PARAM *p)
@@ -488,23 +536,30 @@ static int drbg_get_ctx_params(void *rand, OSSL_PARAM params[])
     return 1;
 }
 
-static const OSSL_PARAM *drbg_gettable_ctx_params(void *rand, void *provider)
-{
-#define COMMON                                                                                                    \
-    OSSL_PARAM_int(OSSL_RAND_PARAM_STATE, NULL), OSSL_PARAM_uint(OSSL_RAND_PARAM_STRENGTH, NULL),                 \
-        OSSL_PARAM_size_t(OSSL_RAND_PARAM_MAX_REQUEST, NULL), OSSL_PARAM_size_t(OSSL_DRBG_PARAM_MIN_ENTROPYLEN, NULL), \
-        OSSL_PARAM_size_t(OSSL_DRBG_PARAM_MAX_ENTROPYLEN, NULL), OSSL_PARAM_size_t(OSSL_DRBG_PARAM_MIN_NONCELEN, NULL), \
-        OSSL_PARAM_size_t(OSSL_DRBG_PARAM_MAX_NONCELEN, NULL), OSSL_PARAM_size_t(OSSL_DRBG_PARAM_MAX_PERSLEN, NULL), \
-        OSSL_PARAM_size_t(OSSL_DRBG_PARAM_MAX_ADINLEN, NULL), OSSL_PARAM_uint(OSSL_DRBG_PARAM_RESEED_COUNTER, NULL), \
-        OSSL_PARAM_time_t(OSSL_DRBG_PARAM_RESEED_TIME, NULL), OSSL_PARAM_uint(OSSL_DRBG_PARAM_RESEED_REQUESTS, NULL), \
+/* What both tell. */
+#define TOLD                                                                                                                 \
+    OSSL_PARAM_int(OSSL_RAND_PARAM_STATE, NULL), OSSL_PARAM_uint(OSSL_RAND_PARAM_STRENGTH, NULL),                            \
+        OSSL_PARAM_size_t(OSSL_RAND_PARAM_MAX_REQUEST, NULL), OSSL_PARAM_size_t(OSSL_DRBG_PARAM_MIN_ENTROPYLEN, NULL),       \
+        OSSL_PARAM_size_t(OSSL_DRBG_PARAM_MAX_ENTROPYLEN, NULL), OSSL_PARAM_size_t(OSSL_DRBG_PARAM_MIN_NONCELEN, NULL),      \
+        OSSL_PARAM_size_t(OSSL_DRBG_PARAM_MAX_NONCELEN, NULL), OSSL_PARAM_size_t(OSSL_DRBG_PARAM_MAX_PERSLEN, NULL),         \
+        OSSL_PARAM_size_t(OSSL_DRBG_PARAM_MAX_ADINLEN, NULL), OSSL_PARAM_uint(OSSL_DRBG_PARAM_RESEED_COUNTER, NULL),         \
+        OSSL_PARAM_time_t(OSSL_DRBG_PARAM_RESEED_TIME, NULL), OSSL_PARAM_uint(OSSL_DRBG_PARAM_RESEED_REQUESTS, NULL),        \
         OSSL_PARAM_time_t(OSSL_DRBG_PARAM_RESEED_TIME_INTERVAL, NULL)
-    static const OSSL_PARAM hmac[] = {COMMON, OSSL_PARAM_utf8_string(OSSL_DRBG_PARAM_DIGEST, NULL, 0),
-                                      OSSL_PARAM_utf8_string(OSSL_DRBG_PARAM_MAC, NULL, 0), OSSL_PARAM_END};
-    static const OSSL_PARAM ctr[] = {COMMON, OSSL_PARAM_utf8_string(OSSL_DRBG_PARAM_CIPHER, NULL, 0),
-                                     OSSL_PARAM_int(OSSL_DRBG_PARAM_USE_DF, NULL), OSSL_PARAM_END};
-#undef COMMON
-    (void)provider;
-    return rand != NULL && ((struct drbg *)rand)->kinds == ctr_kinds ? ctr : hmac;
+
+static const OSSL_PARAM *hmac_gettable_ctx_params(void *rand, void *provider)
+{
+    static const OSSL_PARAM params[] = {TOLD, OSSL_PARAM_utf8_string(OSSL_DRBG_PARAM_DIGEST, NULL, 0),
+                                        OSSL_PARAM_utf8_string(OSSL_DRBG_PARAM_MAC, NULL, 0), OSSL_PARAM_END};
+    (void)rand, (void)provider;
+    return params;
+}
+
+static const OSSL_PARAM *ctr_gettable_ctx_params(void *rand, void *provider)
+{
+    static const OSSL_PARAM params[] = {TOLD, OSSL_PARAM_utf8_string(OSSL_DRBG_PARAM_CIPHER, NULL, 0),
+                                        OSSL_PARAM_int(OSSL_DRBG_PARAM_USE_DF, NULL), OSSL_PARAM_END};
+    (void)rand, (void)provider;
+    return params;
 }
 
 static int drbg_instantiate(void *rand, unsigned int strength, int fresh, const unsigned char *personalization, size_t len,
@@ -576,29 +631,29 @@ static void drbg_free(void *rand)
     OPENSSL_secure_clear_free(d, sizeof *d);
 }
 
-#define CALLS(new)                                                              \
-    {                                                                           \
-        {OSSL_FUNC_RAND_NEWCTX, (void (*)(void))new},                           \
-        {OSSL_FUNC_RAND_FREECTX, (void (*)(void))drbg_free},                    \
-        {OSSL_FUNC_RAND_INSTANTIATE, (void (*)(void))drbg_instantiate},         \
-        {OSSL_FUNC_RAND_UNINSTANTIATE, (void (*)(void))drbg_uninstantiate},     \
-        {OSSL_FUNC_RAND_GENERATE, (void (*)(void))drbg_generate},               \
-        {OSSL_FUNC_RAND_RESEED, (void (*)(void))drbg_reseed},                   \
-        {OSSL_FUNC_RAND_ENABLE_LOCKING, (void (*)(void))drbg_enable_locking},   \
-        {OSSL_FUNC_RAND_LOCK, (void (*)(void))drbg_lock},                       \
-        {OSSL_FUNC_RAND_UNLOCK, (void (*)(void))drbg_unlock},                   \
-        {OSSL_FUNC_RAND_SETTABLE_CTX_PARAMS, (void (*)(void))drbg_settable_ctx_params}, \
-        {OSSL_FUNC_RAND_SET_CTX_PARAMS, (void (*)(void))drbg_set_ctx_params},   \
-        {OSSL_FUNC_RAND_GETTABLE_CTX_PARAMS, (void (*)(void))drbg_gettable_ctx_params}, \
-        {OSSL_FUNC_RAND_GET_CTX_PARAMS, (void (*)(void))drbg_get_ctx_params},   \
-        {OSSL_FUNC_RAND_VERIFY_ZEROIZATION, (void (*)(void))drbg_verify_zeroization}, \
-        {OSSL_FUNC_RAND_GET_SEED, (void (*)(void))drbg_get_seed},               \
-        {OSSL_FUNC_RAND_CLEAR_SEED, (void (*)(void))drbg_clear_seed},           \
-        {0, NULL},                                                              \
+#define CALLS(sort)                                                                             \
+    {                                                                                           \
+        {OSSL_FUNC_RAND_NEWCTX, (void (*)(void))sort##_new},                                    \
+        {OSSL_FUNC_RAND_FREECTX, (void (*)(void))drbg_free},                                    \
+        {OSSL_FUNC_RAND_INSTANTIATE, (void (*)(void))drbg_instantiate},                         \
+        {OSSL_FUNC_RAND_UNINSTANTIATE, (void (*)(void))drbg_uninstantiate},                     \
+        {OSSL_FUNC_RAND_GENERATE, (void (*)(void))drbg_generate},                               \
+        {OSSL_FUNC_RAND_RESEED, (void (*)(void))drbg_reseed},                                   \
+        {OSSL_FUNC_RAND_ENABLE_LOCKING, (void (*)(void))drbg_enable_locking},                   \
+        {OSSL_FUNC_RAND_LOCK, (void (*)(void))drbg_lock},                                       \
+        {OSSL_FUNC_RAND_UNLOCK, (void (*)(void))drbg_unlock},                                   \
+        {OSSL_FUNC_RAND_SETTABLE_CTX_PARAMS, (void (*)(void))sort##_settable_ctx_params},       \
+        {OSSL_FUNC_RAND_SET_CTX_PARAMS, (void (*)(void))drbg_set_ctx_params},                   \
+        {OSSL_FUNC_RAND_GETTABLE_CTX_PARAMS, (void (*)(void))sort##_gettable_ctx_params},       \
+        {OSSL_FUNC_RAND_GET_CTX_PARAMS, (void (*)(void))drbg_get_ctx_params},                   \
+        {OSSL_FUNC_RAND_VERIFY_ZEROIZATION, (void (*)(void))drbg_verify_zeroization},           \
+        {OSSL_FUNC_RAND_GET_SEED, (void (*)(void))drbg_get_seed},                               \
+        {OSSL_FUNC_RAND_CLEAR_SEED, (void (*)(void))drbg_clear_seed},                           \
+        {0, NULL},                                                                              \
     }
 
-static const OSSL_DISPATCH hmac_calls[] = CALLS(hmac_new);
-static const OSSL_DISPATCH ctr_calls[] = CALLS(ctr_new);
+static const OSSL_DISPATCH hmac_calls[] = CALLS(hmac);
+static const OSSL_DISPATCH ctr_calls[] = CALLS(ctr);
 
 static const OSSL_ALGORITHM rands[] = {
     {"HMAC-DRBG", "provider=rbgtree", hmac_calls, "HMAC_DRBG of librbg"},
