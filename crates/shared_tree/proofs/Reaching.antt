@@ -53,7 +53,7 @@ or_right false b h = h
 pub or_left : (a b : Bool) → a ≡ true → (a || b) ≡ true
 or_left a b h = ap (λ (z : Bool). z || b) h
 
-or_cases : (a b : Bool) → (a || b) ≡ true → (a ≡ true) ⊎ (b ≡ true)
+pub or_cases : (a b : Bool) → (a || b) ≡ true → (a ≡ true) ⊎ (b ≡ true)
 or_cases true b h = inl refl
 or_cases false b h = inr h
 

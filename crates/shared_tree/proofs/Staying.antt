@@ -1,6 +1,6 @@
 -- What a pass keeps while it waits.
-use Rattle.std.proofs.Common.{◌≡◌, inl, inr, ⊎_elim, ℕ, List, [], ◌∷◌, ◌++◌, tt, refl, sym, ap, ◌∙◌, subst, append-nil, append_assoc, true, false, eqb-true, eq-eqb}
-use Rattle.std.proofs.lemmas.List.Elements.{All-append}
+use Rattle.std.proofs.Common.{◌≡◌, inl, inr, ⊎_elim, ℕ, List, [], ◌∷◌, ◌++◌, refl, sym, ap, ◌∙◌, subst, append-nil, append_assoc, true, false, eqb-true, eq-eqb}
+use Rattle.std.proofs.lemmas.List.Elements.{All-append, All-cons, All-nil}
 use Rattle.std.specs.Prelude.{Option, All, ◌==◌}
 use mathlib.Core.Option.{some}
 use lib.ListN.{get_elem?}
@@ -22,7 +22,7 @@ use Rattle.shared_tree.proofs.Leaving.{begins_on, same_on}
 use Rattle.shared_tree.proofs.Reaching.{or_cases, or_left}
 
 grows_none : (slots : List ℕ) (m : List Met) → GrowsAmong slots m m
-grows_none slots m = record { items = []; grows = sym (append-nil m); among = tt }
+grows_none slots m = record { items = []; grows = sym (append-nil m); among = All-nil (λ (x : Met). has slots x.slot ≡ true) }
 
 pub grows_on : (slots : List ℕ) (m n o : List Met) → GrowsAmong slots m n → GrowsAmong slots n o → GrowsAmong slots m o
 grows_on slots m n o a b = record {
@@ -31,16 +31,14 @@ grows_on slots m n o a b = record {
   among = All-append (λ (x : Met). has slots x.slot ≡ true) a.items b.items a.among b.among;
 }
 
--- met one slot alone, which is among others
-only_among : (k : ℕ) (slots : List ℕ) → has slots k ≡ true → (items : List Met) → All (λ (x : Met). has (k ∷ []) x.slot ≡ true) items
-    → All (λ (x : Met). has slots x.slot ≡ true) items
-only_among k slots on [] a = tt
-only_among k slots on (x ∷ xs) a =
-    let is : k ≡ x.slot = ⊎_elim (λ e. eqb-true k x.slot e) (λ f. absurd f) (or_cases (k == x.slot) false a.0) in
-    (subst (λ (n : ℕ). has slots n ≡ true) is on, only_among k slots on xs a.1)
+-- what is among one slot is among others
+only_one : (k : ℕ) (slots : List ℕ) (n : ℕ) → has slots k ≡ true → has (k ∷ []) n ≡ true → has slots n ≡ true
+only_one k slots n on is = ⊎_elim
+    (λ (e : (k == n) ≡ true). subst (λ (j : ℕ). has slots j ≡ true) (eqb-true k n e) on)
+    (λ (f : false ≡ true). cc) (or_cases (k == n) false is)
 
 pub grows_among : (k : ℕ) (slots : List ℕ) (m n : List Met) → has slots k ≡ true → GrowsAmong (k ∷ []) m n → GrowsAmong slots m n
-grows_among k slots m n on a = record { items = a.items; grows = a.grows; among = only_among k slots on a.items a.among }
+grows_among k slots m n on a = record { items = a.items; grows = a.grows; among = λ i d less. only_one k slots _ on (a.among i d less) }
 
 pub grows_same : (slots : List ℕ) (m n : List Met) → n ≡ m → GrowsAmong slots m n
 grows_same slots m n e = subst (λ (l : List Met). GrowsAmong slots m l) (sym e) (grows_none slots m)
@@ -73,7 +71,11 @@ module _ {S : Type 0} (told : S → Option (List ℕ)) (faults : S → ℕ) wher
     leases_are = refl;
     own = λ _. m.finds.mine;
     same = record { number_is = refl; opening_is = refl; callers_is = refl };
-    met = record { items = _ ∷ []; grows = refl; among = (or_left (k == k) false (eq-eqb k k refl), tt) };
+    met = record {
+      items = _ ∷ [];
+      grows = refl;
+      among = All-cons (λ (x : Met). has (k ∷ []) x.slot ≡ true) _ [] (or_left (k == k) false (eq-eqb k k refl)) (All-nil (λ (x : Met). has (k ∷ []) x.slot ≡ true));
+    };
   })
 
   pub stays_seen : (k : ℕ) (v u w : View) → Stays k v u → Looks (tree_meaning told faults) u w → Stays k v w
