@@ -1,5 +1,5 @@
 -- A tree that was opened, as parts that stand after a history.
-use Rattle.std.proofs.Common.{◌≡◌, ◌∙◌, ◌≤◌, ◌^◌, ◌-◌, ℕ, List, [], length, sym, subst, arith}
+use Rattle.std.proofs.Common.{◌≡◌, ◌∙◌, ◌≤◌, ◌^◌, ℕ, List, [], length, sym, subst, arith}
 use Rattle.std.specs.Prelude.{Option, Some, slice_get}
 use Rattle.tree_config.specs.Tree.{Tree}
 use Rattle.rbg_nodes.specs.Views.{NodeView}
