@@ -2,7 +2,7 @@
 use Rattle.std.proofs.Common.{◌≡◌, ◌+◌, ℕ, List, [], ◌∷◌, ◌++◌, length, length-append, ap, ◌∙◌}
 use Rattle.std.specs.Prelude.{Option, All}
 use Rattle.shared_tree.specs.Opens.{IsOpened}
-use Rattle.shared_tree.specs.Passes.{SharedView, IsPassOf}
+use Rattle.shared_tree.specs.Passes.{SharedView}
 use Rattle.tree_config.specs.Tree.{Tree}
 use Rattle.turn_table.specs.Passes.{Standing}
 
@@ -10,5 +10,5 @@ pub one_more : (before after : List (List ℕ)) (e : List ℕ) (n : ℕ) → aft
 one_more before after e n is count = ap length is ∙ (length-append before (e ∷ []) ∙ ap (λ (k : ℕ). k + 1) count)
 
 pub are_new : {S : Type 0} (told : S → Option (List ℕ)) (faults : S → ℕ) (p : Tree) (samples : List S) (seeds : List (List ℕ)) (callers : ℕ) (t : SharedView) (passes : List Standing)
-    → IsOpened told faults p samples seeds callers t passes → All (λ (s : Standing). IsPassOf t s × (length s.view.mine ≡ 0)) passes
-are_new told faults p samples seeds callers t passes is k d inside = let e = is.each k d inside in (e.0, ap length e.1.no_entry)
+    → IsOpened told faults p samples seeds callers t passes → All (λ (s : Standing). length s.view.mine ≡ 0) passes
+are_new told faults p samples seeds callers t passes is k d inside = ap length (is.each k d inside).1.no_entry

@@ -2,7 +2,8 @@
 //! tree with a seed that counts up for each node. With CALLERS 1 to 64 the tree is shared: each caller has a thread of its own, in which it
 //! asks the node of its number, modulo the number of nodes, for BYTES bytes TIMES times. With CALLERS 0 the tree of one caller is asked in
 //! the same way, at node 0. It prints how many of the calls were Done, and the sum of the first eight bytes of all their outputs as numbers,
-//! lowest byte first, modulo 2^64. Other words, and another plan, are a line on standard error and status 1.
+//! lowest byte first, modulo 2^64. A shared tree is closed then. Where there is no memory for that, the last caller asks once more, and what
+//! that comes to is printed too. Then, and after other words, another plan, or want of memory, there is a line on standard error and status 1.
 //!
 //! - `job`: what the words ask for;
 //! - `tree`: the tree that is opened;
@@ -14,6 +15,7 @@ mod job;
 mod tally;
 mod tree;
 
+use calls::Outcome;
 use job::Job;
 use std::io::Read;
 use std::process::ExitCode;
@@ -49,10 +51,16 @@ fn main(rt: HostRuntime) -> io::Result<ExitCode> {
         eprintln!(rt; "shared_bench: no plan")?;
         return Ok(ExitCode::from(1));
     };
-    let Some(Tally { done, sum }) = calls::tally_of(&rt, rt.alloc(), plan, job) else {
+    let Some(Outcome { tally, again }) = calls::outcome_of(&rt, rt.alloc(), plan, job) else {
         eprintln!(rt; "shared_bench: the tree is not opened")?;
         return Ok(ExitCode::from(1));
     };
+    let Tally { done, sum } = tally;
     println!(rt; "{done} done, {sum}")?;
-    Ok(ExitCode::SUCCESS)
+    let Some(Tally { done, sum }) = again else {
+        return Ok(ExitCode::SUCCESS);
+    };
+    println!(rt; "{done} done, {sum}")?;
+    eprintln!(rt; "shared_bench: the tree is not closed")?;
+    Ok(ExitCode::from(1))
 }

@@ -1,6 +1,6 @@
 // The trees whose calls are timed.
 ghost use Rattle.std.specs.Prelude.{◌≡◌, ◌≤◌, ◌<◌, All, IfOk, IfSome, length};
-ghost use Rattle.shared_tree.specs.Passes.{IsPassOf};
+ghost use Rattle.shared_tree.specs.Passes.{AreReady};
 
 use sample_source::Recorded;
 use shared_tree::{SharedTree, TreePass};
@@ -45,7 +45,9 @@ pub fn shared(
     callers: u8,
 ) -> Option<(SharedTree<Recorded>, Vec<TreePass<Recorded>>)>
     requires callers { (0 < callers) × (callers ≤ 64) }
-    ensures new { IfSome result (λ r. All (λ p. IsPassOf r.0 p × (length p.view.mine ≡ 0)) r.1.items) }
+    ensures ready { IfSome result (λ r. AreReady r.0 r.1.items) }
+    ensures all { IfSome result (λ r. length r.1.items ≡ r.0.callers) }
+    ensures new { IfSome result (λ r. All (λ p. length p.view.mine ≡ 0) r.1.items) }
 {
     let seeds = seeds_of(alloc, &plan).ok()?;
     if plan.sources() != 0 {

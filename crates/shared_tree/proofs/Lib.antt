@@ -6,6 +6,7 @@ pub mod Settling
 pub mod Reaching
 pub mod Leaving
 pub mod Staying
+pub mod Taking
 pub mod Idle
 pub mod Elements
 pub mod Opened

@@ -148,3 +148,6 @@ module _ {S : Type 0} (told : S → Option (List ℕ)) (faults : S → ℕ) wher
 
       pub met_settled : w.met ≡ v.met
       met_settled = ap (λ (u : View). u.met) s.after
+
+      pub taken_settled : w.taken ≡ v.taken
+      taken_settled = ap (λ (u : View). u.taken) s.after

@@ -48,6 +48,7 @@ stays_same k v = record {
   begins = ([], sym (append-nil v.seen));
   mine_is = refl;
   leases_are = refl;
+  taken_is = refl;
   own = λ x. x;
   same = record { number_is = refl; opening_is = refl; callers_is = refl };
   met = grows_none (k ∷ []) v.met;
@@ -58,6 +59,7 @@ stays_on k v u w a b = record {
   begins = begins_on v.seen u.seen w.seen a.begins b.begins;
   mine_is = b.mine_is ∙ a.mine_is;
   leases_are = b.leases_are ∙ a.leases_are;
+  taken_is = b.taken_is ∙ a.taken_is;
   own = λ x. b.own (a.own x);
   same = same_on v u w a.same b.same;
   met = grows_on (k ∷ []) v.met u.met w.met a.met b.met;
@@ -69,6 +71,7 @@ module _ {S : Type 0} (told : S → Option (List ℕ)) (faults : S → ℕ) wher
     begins = m.finds.seen;
     mine_is = refl;
     leases_are = refl;
+    taken_is = refl;
     own = λ _. m.finds.mine;
     same = record { number_is = refl; opening_is = refl; callers_is = refl };
     met = record {
@@ -83,6 +86,7 @@ module _ {S : Type 0} (told : S → Option (List ℕ)) (faults : S → ℕ) wher
     begins = m.finds.seen;
     mine_is = refl;
     leases_are = refl;
+    taken_is = refl;
     own = λ _. m.finds.mine;
     same = record { number_is = refl; opening_is = refl; callers_is = refl };
     met = grows_none (k ∷ []) u.met;

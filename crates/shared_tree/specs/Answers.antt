@@ -3,6 +3,7 @@
 use Rattle.std.specs.Prelude.{◌≡◌, ◌≢◌, ◌<◌, ◌≤◌, ◌⊎◌, ℕ, List, [], ◌∷◌, ◌++◌, map, length, true, All}
 use Rattle.turn_table.specs.declared.view.View.{View}
 use Rattle.turn_table.specs.declared.view.Met.{Met}
+use Rattle.turn_table.specs.declared.view.Taken.{Taken}
 use Rattle.turn_table.specs.History.{of_caller}
 use Rattle.turn_table.specs.Views.{turn_word}
 use Rattle.tree_config.specs.Tree.{Tree}
@@ -42,6 +43,12 @@ pub record GrowsAmong (slots : List ℕ) (before after : List Met) : Type 0 wher
   pub items : List Met
   pub grows : after ≡ before ++ items
   pub among : All (λ (x : Met). has slots x.slot ≡ true) items
+
+-- the turns that were taken grew by turns of slots on the target's path, each of them taken for this target
+pub record TakesFor (p : Tree) (t : ℕ) (before after : List Taken) : Type 0 where
+  pub turns : List Taken
+  pub grows : after ≡ before ++ turns
+  pub each : All (λ (x : Taken). (has (path p t) x.slot ≡ true) × (x.target ≡ t)) turns
 
 -- The entries behind the opening calls are one legal history: with the opening calls at the front each is right after those before it, no
 -- sample is used twice, and a source is quiet after an alarm.

@@ -154,6 +154,7 @@ pub record Stays (k : ℕ) (v w : View) : Type 0 where
   pub begins : Begins v.seen w.seen
   pub mine_is : w.mine ≡ v.mine
   pub leases_are : w.leases ≡ v.leases
+  pub taken_is : w.taken ≡ v.taken
   pub own : v.mine ≡ of_caller v.number v.seen → w.mine ≡ of_caller w.number w.seen
   pub same : IsSame v w
   pub met : GrowsAmong (k ∷ []) v.met w.met

@@ -9,6 +9,7 @@ ghost use Rattle.tree_core.specs.declared.step.Next.TheVariants as next_is;
 ghost use Rattle.tree_core.specs.Names.{Names};
 ghost use Rattle.shared_tree.specs.Machine.{tree_meaning};
 ghost use Rattle.shared_tree.specs.Rows.{what_of, room_of, places_of, Others};
+ghost use Rattle.shared_tree.specs.Answers.{TakesFor};
 ghost use Rattle.shared_tree.specs.Carries.{Carrying, IsAbleToLeave, IsNext, Keeps, Makes, MaySettle, Meets, Reaches, Settles};
 
 use crate::busy::Busy;
@@ -94,6 +95,7 @@ pub(crate) fn refuse<S: Samples>(
     ensures keeps { Keeps S.told S.faults (what_of row.entry.now) pass.old.view pass.new.view }
     ensures made { Makes S.told S.faults call.entry.now input.entry.now reply.entry.now (take reply.entry.now.len out.entry.now) pass.old.view pass.new.view }
     ensures met { pass.new.view.met ≡ pass.old.view.met }
+    ensures taken { pass.new.view.taken ≡ pass.old.view.taken }
     ensures within { reply.entry.now.len ≤ 65536 }
     ensures behind { IsWipedBehind reply.entry.now.len out.entry.now out.entry.now }
 {
@@ -120,6 +122,7 @@ pub(crate) fn perform<S: Samples>(
     ensures keeps { Keeps S.told S.faults (what_of row.new) pass.old.view pass.new.view }
     ensures made { Makes S.told S.faults call.entry.now input.entry.now result (take result.len out.new) pass.old.view pass.new.view }
     ensures met { pass.new.view.met ≡ pass.old.view.met }
+    ensures taken { pass.new.view.taken ≡ pass.old.view.taken }
     ensures within { result.len ≤ 65536 }
     ensures behind { IsWipedBehind result.len out.old out.new }
 {
@@ -145,6 +148,7 @@ fn reach<S: Samples>(
     ensures carrying { IfOk result (λ _. Carrying S.told S.faults plan.entry.now (target plan.entry.now call.entry.now) (what_of row.new) (room_of row.new) turns.entry.now.table.slots pass.new.view) }
     ensures reaches { IfOk result (λ _. Reaches slot pass.old.view pass.new.view) }
     ensures met { IfOk result (λ _. pass.new.view.met ≡ pass.old.view.met) }
+    ensures taken { TakesFor plan.entry.now (target plan.entry.now call.entry.now) pass.old.view.taken pass.new.view.taken }
     ensures places { IfOk result (λ _. places_of row.new < places_of row.old) }
     ensures busy { IfErr result (λ b. Meets plan.entry.now (target plan.entry.now call.entry.now) call.entry.now input.entry.now b pass.old.view pass.new.view) }
     ensures keeps { IfErr result (λ _. Keeps S.told S.faults (what_of row.new) pass.old.view pass.new.view) }
@@ -199,6 +203,7 @@ pub(crate) fn climb<S: Samples>(
     ensures keeps { Keeps S.told S.faults (what_of row.new) pass.old.view pass.new.view }
     ensures made { IfOk result (λ r. Makes S.told S.faults call.entry.now input.entry.now r (take r.len out.new) pass.old.view pass.new.view) }
     ensures met { IfOk result (λ _. pass.new.view.met ≡ pass.old.view.met) }
+    ensures taken { TakesFor plan.entry.now (target plan.entry.now call.entry.now) pass.old.view.taken pass.new.view.taken }
     ensures within { IfOk result (λ r. r.len ≤ 65536) }
     ensures behind { IfOk result (λ r. IsWipedBehind r.len out.old out.new) }
     ensures busy { IfErr result (λ b. Meets plan.entry.now (target plan.entry.now call.entry.now) call.entry.now input.entry.now b pass.old.view pass.new.view) }

@@ -1,8 +1,8 @@
 //! The tree of generators for up to 64 callers at once, over one turn for each node and each source.
 //!
 //! A caller's thread has a [`TreePass`]. A call takes the turns of its chain, from the node that it names upwards, works on what lies in these
-//! slots, adds its one entry to the history of all calls, and puts everything back. Each turn that it finds held is that of a slot on the
-//! path of its target, so calls on branches that share no slot go side by side:
+//! slots, adds its one entry to the history of all calls, and puts everything back. Each turn that it takes, or finds held, is that of a slot on
+//! the path of its target, so calls on branches that share no slot go side by side:
 //!
 //! - [`SharedTree::open`] opens a tree, and makes a pass for each caller;
 //! - [`SharedTree::try_call`] makes a call, or says which other caller has a turn that it needs, and never waits;

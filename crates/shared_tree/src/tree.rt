@@ -4,7 +4,7 @@ ghost use Rattle.tree_rules.specs.Slots.{path};
 ghost use Rattle.tree_rules.specs.Chain.{target};
 ghost use Rattle.tree_acts.specs.Wiped.{IsWipedBehind};
 ghost use Rattle.shared_tree.specs.Passes.{IsPassOf};
-ghost use Rattle.shared_tree.specs.Answers.{GrowsAmong, IsAnswered, IsBusy, IsSame};
+ghost use Rattle.shared_tree.specs.Answers.{GrowsAmong, IsAnswered, IsBusy, IsSame, TakesFor};
 
 use crate::busy::Busy;
 use crate::calls::climb;
@@ -52,7 +52,8 @@ impl<S: Samples> SharedTree<S> {
     ///
     /// After `Busy` no sample was read, the call is in no history, each turn that it took is free again with its value unchanged, and `out` is as
     /// it was. The slot lies on the path of the call's target, and on that of the target for which the other caller has the turn. It is a slot
-    /// of the call's chain, so a call that needs its node alone is busy at that node alone.
+    /// of the call's chain, so a call that needs its node alone is busy at that node alone. Each turn that a call takes is of a slot on the path
+    /// of its target, and is taken for this target. So calls whose paths share no slot never make each other busy.
     pub fn try_call(
         &self,
         pass: &mut TreePass<S>,
@@ -66,6 +67,7 @@ impl<S: Samples> SharedTree<S> {
         ensures pass { IsPassOf self.entry.now pass.new }
         ensures same { IsSame pass.old.view pass.new.view }
         ensures answered { IfOk result (λ r. IsAnswered self.entry.now.plan call.entry.now input.entry.now r (take r.len out.new) pass.old.view pass.new.view) }
+        ensures taken { TakesFor self.entry.now.plan (target self.entry.now.plan call.entry.now) pass.old.view.taken pass.new.view.taken }
         ensures unmet { IfOk result (λ _. pass.new.view.met ≡ pass.old.view.met) }
         ensures within { IfOk result (λ r. r.len ≤ 65536) }
         ensures behind { IfOk result (λ r. IsWipedBehind r.len out.old out.new) }
@@ -99,6 +101,7 @@ impl<S: Samples> SharedTree<S> {
         ensures pass { IsPassOf self.entry.now pass.new }
         ensures same { IsSame pass.old.view pass.new.view }
         ensures answered { IsAnswered self.entry.now.plan call.entry.now input.entry.now result (take result.len out.new) pass.old.view pass.new.view }
+        ensures taken { TakesFor self.entry.now.plan (target self.entry.now.plan call.entry.now) pass.old.view.taken pass.new.view.taken }
         ensures waited { GrowsAmong (path self.entry.now.plan (target self.entry.now.plan call.entry.now)) pass.old.view.met pass.new.view.met }
         ensures within { result.len ≤ 65536 }
         ensures behind { IsWipedBehind result.len out.old out.new }

@@ -6,7 +6,7 @@ ghost use Rattle.tree_rules.specs.Chain.{target};
 ghost use Rattle.tree_acts.specs.Wiped.{IsWipedBehind};
 ghost use Rattle.shared_tree.specs.Machine.{OnPath};
 ghost use Rattle.shared_tree.specs.Rows.{what_of, room_of, places_of};
-ghost use Rattle.shared_tree.specs.Answers.{GrowsAmong};
+ghost use Rattle.shared_tree.specs.Answers.{GrowsAmong, TakesFor};
 ghost use Rattle.shared_tree.specs.Carries.{Carrying, IsNext, Keeps, Makes, Reaches, TakesLater};
 
 use crate::calls::{leave, perform, refuse, target};
@@ -61,6 +61,7 @@ fn reach_later<S: Samples, R: Wait>(
     ensures carrying { Carrying S.told S.faults plan.entry.now (target plan.entry.now call.entry.now) (what_of row.new) (room_of row.new) turns.entry.now.table.slots pass.new.view }
     ensures reaches { Reaches slot pass.old.view pass.new.view }
     ensures met { GrowsAmong (path plan.entry.now (target plan.entry.now call.entry.now)) pass.old.view.met pass.new.view.met }
+    ensures taken { TakesFor plan.entry.now (target plan.entry.now call.entry.now) pass.old.view.taken pass.new.view.taken }
     ensures places { places_of row.new < places_of row.old }
 {
     let _ = input;
@@ -88,6 +89,7 @@ pub(crate) fn climb_later<S: Samples, R: Wait>(
     ensures keeps { Keeps S.told S.faults (what_of row.new) pass.old.view pass.new.view }
     ensures made { Makes S.told S.faults call.entry.now input.entry.now result (take result.len out.new) pass.old.view pass.new.view }
     ensures met { GrowsAmong (path plan.entry.now (target plan.entry.now call.entry.now)) pass.old.view.met pass.new.view.met }
+    ensures taken { TakesFor plan.entry.now (target plan.entry.now call.entry.now) pass.old.view.taken pass.new.view.taken }
     ensures within { result.len ≤ 65536 }
     ensures behind { IsWipedBehind result.len out.old out.new }
 {

@@ -11,7 +11,7 @@ use Rattle.turn_table.specs.declared.view.View.{View}
 use Rattle.turn_table.specs.declared.view.Lease.{Lease}
 use Rattle.turn_table.specs.Meaning.{Meaning}
 use Rattle.turn_table.specs.History.{state_of}
-use Rattle.turn_table.specs.Views.{turn_word, with_seen, with_leases, lease, HasTurn, met_at}
+use Rattle.turn_table.specs.Views.{turn_word, with_seen, with_leases, with_taken, lease, HasTurn, met_at}
 use Rattle.turn_table.specs.TurnRule.{IsLeased, Knows, IsFree, IsListed, TurnRule}
 use Rattle.turn_table.specs.Kept.{Kept}
 use Rattle.turn_table.specs.Steps.{looked, glanced, taken}
@@ -54,7 +54,7 @@ module _ {S : Type 0} (M : Meaning S) where
         let st : List ℕ = state_of M me.0.opening r.history k in
         let is_st : st ≡ state_of M r.opening r.history k = ap (λ (o : List ℕ). state_of M o r.history k) kn.opening_is in
         let h : Lease = lease k target st true in
-        let w : View = with_seen r.history (with_leases (me.0.leases ++ h ∷ []) me.0) in
+        let w : View = with_seen r.history (with_taken (record { slot = k; target = target }) (with_leases (me.0.leases ++ h ∷ []) me.0)) in
         let wide = r.wide in
         let old : (i : ℕ) (t : Lease) → get_elem? me.0.leases i ≡ some t → t.slot ≢ k = λ i t e o. free (i, t, e, o) in
         let mine : IsLeased M r.opening r.history (set s.words (8 + 8 * k) new) (set s.homes k none) me.0.number h = record {

@@ -13,7 +13,7 @@ use Rattle.turn_table.specs.declared.view.View.{View}
 use Rattle.turn_table.specs.declared.view.Lease.{Lease}
 use Rattle.turn_table.specs.Meaning.{Meaning}
 use Rattle.turn_table.specs.History.{Entry, state_of}
-use Rattle.turn_table.specs.Views.{turn_word, with_seen, with_leases, lease, marked, HasTurn, met_at, took}
+use Rattle.turn_table.specs.Views.{turn_word, with_seen, with_leases, with_taken, lease, marked, HasTurn, met_at, took}
 use Rattle.turn_table.specs.Kept.{Kept}
 use Rattle.turn_table.specs.Calls.{Finds, Takes, Meets}
 use Rattle.turn_table.specs.Steps.{taken, rested, fetched, released}
@@ -33,7 +33,7 @@ module _ {S : Type 0} (M : Meaning S) (slots k target word : ℕ) (m : Me (Optio
     pub value : S
     pub finds : Finds M m.0 history
     pub stands : M.stands value (st history)
-    pub after : m' ≡ (with_seen history (with_leases (m.0.leases ++ lease k target (st history) true ∷ []) m.0), (k, Some value) ∷ m.1)
+    pub after : m' ≡ (with_seen history (with_taken (record { slot = k; target = target }) (with_leases (m.0.leases ++ lease k target (st history) true ∷ []) m.0)), (k, Some value) ∷ m.1)
 
   pub won : target < 65536 → n ≡ 0 → Won
   won small z = let w = t.2 z in let k' : ℕ = w.slot in let t' : ℕ = w.target in let a = w.at in let b = w.wrote in let e : k' ≡ k = omega arith in let small' : t' < 65536 = w.target_in in
@@ -43,7 +43,7 @@ module _ {S : Type 0} (M : Meaning S) (slots k target word : ℕ) (m : Me (Optio
         value = w.value;
         finds = t.1;
         stands = subst (λ (z : ℕ). M.stands w.value (state_of M m.0.opening t.0 z)) e w.stands;
-        after = subst (λ (z : ℕ × ℕ). m' ≡ (with_seen t.0 (with_leases (m.0.leases ++ lease z.0 z.1 (state_of M m.0.opening t.0 z.0) true ∷ []) m.0), (z.0, Some w.value) ∷ m.1)) (λ i. (e i, g i)) w.after;
+        after = subst (λ (z : ℕ × ℕ). m' ≡ (with_seen t.0 (with_taken (record { slot = z.0; target = z.1 }) (with_leases (m.0.leases ++ lease z.0 z.1 (state_of M m.0.opening t.0 z.0) true ∷ []) m.0)), (z.0, Some w.value) ∷ m.1)) (λ i. (e i, g i)) w.after;
       }
 
   -- the take lost: the word found gives its parts back
@@ -112,7 +112,7 @@ module _ {S : Type 0} (M : Meaning S) (slots k target word : ℕ) (m : Me (Optio
   now = state_of M m.0.opening W.history k
 
   abbrev pub holding : View
-  holding = with_seen W.history (with_leases (m.0.leases ++ lease k target now true ∷ []) m.0)
+  holding = with_seen W.history (with_taken (record { slot = k; target = target }) (with_leases (m.0.leases ++ lease k target now true ∷ []) m.0))
 
   pub carries : m'.1 ≡ (k, Some W.value) ∷ []
   carries = ap (λ (z : Me (Option S) View). z.1) W.after ∙ ap (λ (l : List (ℕ × Option S)). (k, Some W.value) ∷ l) empty

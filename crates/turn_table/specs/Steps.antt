@@ -7,7 +7,7 @@ use Rattle.atomic_table.specs.Table.{Me, Step}
 use Rattle.turn_table.specs.declared.view.View.{View}
 use Rattle.turn_table.specs.Meaning.{Meaning}
 use Rattle.turn_table.specs.History.{Entry, state_of}
-use Rattle.turn_table.specs.Views.{turn_word, opener, with_seen, with_leases, met_at, lease, marked, without, numbered}
+use Rattle.turn_table.specs.Views.{turn_word, opener, with_seen, with_leases, with_taken, met_at, lease, marked, without, numbered}
 use Rattle.turn_table.specs.Calls.{Finds, Commits}
 
 -- a view, and the slots that are out with it
@@ -43,7 +43,7 @@ module _ {V : Type 0} (M : Meaning V) where
     pub wrote : st.second ≡ turn_word target m.0.number
     pub target_in : target < 65536
     pub stands : M.stands value (state_of M m.0.opening h slot)
-    pub after : m' ≡ (with_seen h (with_leases (m.0.leases ++ lease slot target (state_of M m.0.opening h slot) true ∷ []) m.0), (slot, Some value) ∷ m.1)
+    pub after : m' ≡ (with_seen h (with_taken (record { slot = slot; target = target }) (with_leases (m.0.leases ++ lease slot target (state_of M m.0.opening h slot) true ∷ []) m.0)), (slot, Some value) ∷ m.1)
 
   -- the turn was held by another caller
   pub record Loses (st : Step (Option V)) (m : Sat V) (h : List Entry) (n : ℕ) (m' : Sat V) : Type 0 where

@@ -6,6 +6,7 @@ use lib.ListN.{get_elem?}
 use Rattle.turn_table.specs.declared.view.View.{View}
 use Rattle.turn_table.specs.declared.view.Lease.{Lease}
 use Rattle.turn_table.specs.declared.view.Met.{Met}
+use Rattle.turn_table.specs.declared.view.Taken.{Taken}
 use Rattle.turn_table.specs.Meaning.{Meaning}
 use Rattle.turn_table.specs.History.{Entry, state_of}
 
@@ -15,15 +16,15 @@ turn_word target number = (1 + target) + 65536 * number
 
 -- of the first pass before the table is opened
 abbrev pub blank : ℕ → View
-blank callers = record { live = false; fresh = true; opening = []; callers = callers; number = 0; seen = []; mine = []; leases = []; met = []; left = 0; ended = []; olds = [] }
+blank callers = record { live = false; fresh = true; opening = []; callers = callers; number = 0; seen = []; mine = []; leases = []; taken = []; met = []; left = 0; ended = []; olds = [] }
 
 -- what a pass that was taken in leaves behind
 abbrev pub gone : View
-gone = record { live = false; fresh = false; opening = []; callers = 0; number = 0; seen = []; mine = []; leases = []; met = []; left = 0; ended = []; olds = [] }
+gone = record { live = false; fresh = false; opening = []; callers = 0; number = 0; seen = []; mine = []; leases = []; taken = []; met = []; left = 0; ended = []; olds = [] }
 
 -- of a pass that has drawn no number, from which so many may still be cut off
 abbrev pub undealt : List ℕ → ℕ → ℕ → View
-undealt o callers left = record { live = true; fresh = false; opening = o; callers = callers; number = 0; seen = []; mine = []; leases = []; met = []; left = left; ended = []; olds = [] }
+undealt o callers left = record { live = true; fresh = false; opening = o; callers = callers; number = 0; seen = []; mine = []; leases = []; taken = []; met = []; left = left; ended = []; olds = [] }
 
 -- of the first pass once the table is open
 abbrev pub opener : List ℕ → ℕ → View
@@ -37,6 +38,10 @@ with_mine es v = record v { mine = es }
 
 abbrev pub with_leases : List Lease → View → View
 with_leases ts v = record v { leases = ts }
+
+-- one more take that won
+abbrev pub with_taken : Taken → View → View
+with_taken x v = record v { taken = v.taken ++ x ∷ [] }
 
 -- one more take that found a turn held
 abbrev pub with_met : Met → View → View
@@ -82,7 +87,7 @@ met_at h k word v = with_seen h (with_met (record { slot = k; word = word; at = 
 module _ {V : Type 0} (M : Meaning V) where
   -- the turn of a slot was taken after this history
   abbrev pub took : List Entry → ℕ → ℕ → View → View
-  took h k target v = with_seen h (with_leases (v.leases ++ lease k target (state_of M v.opening h k) false ∷ []) v)
+  took h k target v = with_seen h (with_taken (record { slot = k; target = target }) (with_leases (v.leases ++ lease k target (state_of M v.opening h k) false ∷ []) v))
 
   -- the entry was added behind the whole history
   abbrev pub entered : List Entry → Entry → View → View
@@ -94,7 +99,7 @@ kept_after v = record v { left = v.left - 1 }
 
 -- the pass that is cut off
 abbrev pub newcomer : View → View
-newcomer v = record v { number = 0; mine = []; leases = []; met = []; left = 0; ended = []; olds = [] }
+newcomer v = record v { number = 0; mine = []; leases = []; taken = []; met = []; left = 0; ended = []; olds = [] }
 
 -- a number was drawn
 abbrev pub numbered : ℕ → View → View

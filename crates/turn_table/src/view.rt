@@ -19,6 +19,12 @@ pub struct Met {
     pub held: LinkedList<u64>,
 }
 
+/// A take that won: the slot, and the target for which its turn was taken.
+pub struct Taken {
+    pub slot: u64,
+    pub target: u64,
+}
+
 /// A caller whose pass was taken in by another: its number and its entries.
 pub struct Ended {
     pub number: u64,
@@ -32,8 +38,9 @@ pub struct Before {
 }
 
 /// What a pass knows: the opening and the number of callers; its number (0 is none yet); the entries that it has seen, and its own ones; the
-/// turns that it has; its takes that found a turn held; how many passes may still be cut off from it; the callers that ended in it, and what
-/// was seen before. `live` is false of a pass that was taken in and of the first one before the opening, which is `fresh`.
+/// turns that it has; all turns that it ever took; its takes that found a turn held; how many passes may still be cut off from it; the callers
+/// that ended in it, and what was seen before. `live` is false of a pass that was taken in and of the first one before the opening, which is
+/// `fresh`.
 pub struct View {
     pub live: bool,
     pub fresh: bool,
@@ -43,6 +50,7 @@ pub struct View {
     pub seen: LinkedList<LinkedList<u64>>,
     pub mine: LinkedList<LinkedList<u64>>,
     pub leases: LinkedList<Lease>,
+    pub taken: LinkedList<Taken>,
     pub met: LinkedList<Met>,
     pub left: u64,
     pub ended: LinkedList<Ended>,

@@ -3,6 +3,7 @@ use Rattle.tree_rules.specs.Chain.{target}
 use Rattle.shared_tree.specs.Rows.{what_of}
 use Rattle.shared_tree.specs.Carries.{Makes, Meets}
 use Rattle.shared_tree.proofs.Leaving.{ok_map, err_map, able, keeps_left, makes_left, meets_left}
+use Rattle.shared_tree.proofs.Taking.{takes_none, takes_left}
 use Rattle.shared_tree.proofs.calls.+climb.Goals as goal
 
 pub leave-requires-clause-held : goal.leave-requires-clause-held
@@ -29,3 +30,16 @@ returns-in-Ok-clause-busy g t c =
     (λ b. Meets p (target p c.args.call.now) c.args.call.now c.args.input.now b c.args.pass.now.view c.leave.new.pass.view)
     (λ b m. meets_left c.in-Take.slot c.args.pass.now.view c.reach.new.pass.view c.climb-answer.new.pass.view c.in-Ok.ensures.reaches c.leave.new.pass.view c.leave.ensures.freed
     c.in-Ok.ensures.met p (target p c.args.call.now) c.args.call.now c.args.input.now b m) c.climb-answer.ensures.busy
+
+pub returns-in-Ok-clause-taken : goal.returns-in-Ok-clause-taken
+returns-in-Ok-clause-taken g t c =
+    let p = c.args.plan.now in
+    takes_left p (target p c.args.call.now) c.in-Take.slot c.args.pass.now.view c.reach.new.pass.view c.climb-answer.new.pass.view c.leave.new.pass.view c.reach.ensures.taken c.climb-answer.ensures.taken c.leave.ensures.freed
+
+pub returns-in-Refuse-clause-taken : goal.returns-in-Refuse-clause-taken
+returns-in-Refuse-clause-taken g t c =
+    let p = c.args.plan.now in takes_none p (target p c.args.call.now) c.args.pass.now.view.taken c.refuse.new.pass.view.taken c.refuse.ensures.taken
+
+pub returns-in-Ready-clause-taken : goal.returns-in-Ready-clause-taken
+returns-in-Ready-clause-taken g t c =
+    let p = c.args.plan.now in takes_none p (target p c.args.call.now) c.args.pass.now.view.taken c.perform.new.pass.view.taken c.perform.ensures.taken

@@ -2,7 +2,7 @@ use Rattle.std.specs.Prelude.{take}
 use Rattle.tree_rules.specs.Chain.{target}
 use Rattle.shared_tree.specs.Rows.{what_of, room_of}
 use Rattle.shared_tree.proofs.Plans.{plan_on}
-use Rattle.shared_tree.proofs.Settling.{may_settle, keeps_settled, makes_settled, met_settled}
+use Rattle.shared_tree.proofs.Settling.{may_settle, keeps_settled, makes_settled, met_settled, taken_settled}
 use Rattle.shared_tree.proofs.calls.perform.Goals as goal
 
 pub settle-requires-clause-may : goal.settle-requires-clause-may
@@ -28,4 +28,10 @@ pub returns-clause-met : goal.returns-clause-met
 returns-clause-met g c =
     let p = c.args.plan.now in
     met_settled g.S.Samples.told g.S.Samples.faults p (target p c.args.call.now) (room_of c.args.row.now) c.args.turns.now.table.slots (what_of c.args.row.now) c.args.pass.now.view c.requires.carrying
+    (what_of c.work-reply.new.hold) c.args.call.now c.args.input.now c.work-reply.result (take c.work-reply.result.len c.work-reply.new.out) c.settle.new.pass.view c.settle.ensures.settled
+
+pub returns-clause-taken : goal.returns-clause-taken
+returns-clause-taken g c =
+    let p = c.args.plan.now in
+    taken_settled g.S.Samples.told g.S.Samples.faults p (target p c.args.call.now) (room_of c.args.row.now) c.args.turns.now.table.slots (what_of c.args.row.now) c.args.pass.now.view c.requires.carrying
     (what_of c.work-reply.new.hold) c.args.call.now c.args.input.now c.work-reply.result (take c.work-reply.result.len c.work-reply.new.out) c.settle.new.pass.view c.settle.ensures.settled

@@ -2,6 +2,7 @@ use Rattle.std.proofs.Common.{◌<◌, ℕ, sym, subst}
 use Rattle.tree_rules.specs.Chain.{target}
 use Rattle.shared_tree.specs.Carries.{Meets}
 use Rattle.shared_tree.proofs.Reaching.{lies, on_path, unheld, none_there, has_room, met, keeps_met, reaches, met_taken, is_of_now, carries_on}
+use Rattle.shared_tree.proofs.Taking.{takes_met, takes_one}
 use Rattle.shared_tree.proofs.calls.reach.Goals as goal
 
 pub target-target-requires : goal.target-target-requires
@@ -51,3 +52,14 @@ returns-in-Err-clause-busy g c =
 pub returns-in-Err-clause-keeps : goal.returns-in-Err-clause-keeps
 returns-in-Err-clause-keeps g c =
     keeps_met g.S.Samples.told g.S.Samples.faults c.args.plan.now c.args.call.now c.args.input.now c.args.row.now c.args.turns.now.table.slots c.args.pass.now.view c.requires.carrying c.args.slot c.requires.next c.in-Err.held.target c.in-Err.held.holder c.try_take.new.pass.view c.in-Err.ensures.held.1
+
+pub returns-in-Ok-clause-taken : goal.returns-in-Ok-clause-taken
+returns-in-Ok-clause-taken g c =
+    let p = c.args.plan.now in
+    let l = lies g.S.Samples.told g.S.Samples.faults p c.args.call.now c.args.input.now c.args.row.now c.args.turns.now.table.slots c.args.pass.now.view c.requires.carrying c.args.slot c.requires.next in
+    takes_one p (target p c.args.call.now) g.S.Samples.told g.S.Samples.faults c.args.slot c.target-target.result l.0 c.target-target.ensures c.in-Ok.value c.args.pass.now.view c.try_take.new.pass.view c.in-Ok.ensures.took
+
+pub returns-in-Err-clause-taken : goal.returns-in-Err-clause-taken
+returns-in-Err-clause-taken g c =
+    let p = c.args.plan.now in
+    takes_met p (target p c.args.call.now) g.S.Samples.told g.S.Samples.faults c.args.slot c.in-Err.held.target c.in-Err.held.holder c.args.pass.now.view c.try_take.new.pass.view c.in-Err.ensures.held.1

@@ -9,7 +9,7 @@ use Rattle.tree_acts.specs.Wiped.{IsWipedBehind}
 use Rattle.tree_acts.proofs.Wiping.{kept}
 use Rattle.shared_tree.specs.Rows.{what_of, room_of}
 use Rattle.shared_tree.proofs.Plans.{same_rows}
-use Rattle.shared_tree.proofs.Settling.{may_settle, keeps_settled, makes_settled, met_settled}
+use Rattle.shared_tree.proofs.Settling.{may_settle, keeps_settled, makes_settled, met_settled, taken_settled}
 use Rattle.shared_tree.proofs.calls.refuse.Goals as goal
 
 pub settle-requires-clause-may : goal.settle-requires-clause-may
@@ -51,3 +51,9 @@ returns-clause-within g c =
     let p = c.args.plan.now in let now = states_held g.S.Samples.told g.S.Samples.faults (what_of c.args.row.now) in
     let none = bare_refusal p c.args.call.now c.args.input.now (chain_of p now c.args.call.now c.args.input.now) c.args.reply.now c.requires.refused.1 in
     omega (arith, none)
+
+pub returns-clause-taken : goal.returns-clause-taken
+returns-clause-taken g c =
+    let h = what_of c.args.row.now in let p = c.args.plan.now in
+    taken_settled g.S.Samples.told g.S.Samples.faults p (target p c.args.call.now) (room_of c.args.row.now) c.args.turns.now.table.slots h c.args.pass.now.view c.requires.carrying
+    h c.args.call.now c.args.input.now c.args.reply.now (take c.args.reply.now.len c.args.out.now) c.settle.new.pass.view c.settle.ensures.settled

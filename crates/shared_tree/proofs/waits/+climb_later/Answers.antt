@@ -7,6 +7,7 @@ use Rattle.shared_tree.specs.Answers.{GrowsAmong}
 use Rattle.shared_tree.specs.Rows.{what_of}
 use Rattle.shared_tree.proofs.Leaving.{able, keeps_left, makes_left}
 use Rattle.shared_tree.proofs.Staying.{grows_on, grows_same}
+use Rattle.shared_tree.proofs.Taking.{takes_none, takes_left}
 use Rattle.shared_tree.proofs.waits.+climb_later.Goals as goal
 
 pub leave-requires-clause-held : goal.leave-requires-clause-held
@@ -37,3 +38,16 @@ returns-in-Refuse-clause-met g t c =
 pub returns-in-Ready-clause-met : goal.returns-in-Ready-clause-met
 returns-in-Ready-clause-met g t c =
     let p = c.args.plan.now in grows_same (path p (target p c.args.call.now)) c.args.pass.now.view.met c.perform.new.pass.view.met c.perform.ensures.met
+
+pub returns-in-Take-clause-taken : goal.returns-in-Take-clause-taken
+returns-in-Take-clause-taken g t c =
+    let p = c.args.plan.now in
+    takes_left p (target p c.args.call.now) c.in-Take.slot c.args.pass.now.view c.reach_later.new.pass.view c.climb_later-reply.new.pass.view c.leave.new.pass.view c.reach_later.ensures.taken c.climb_later-reply.ensures.taken c.leave.ensures.freed
+
+pub returns-in-Refuse-clause-taken : goal.returns-in-Refuse-clause-taken
+returns-in-Refuse-clause-taken g t c =
+    let p = c.args.plan.now in takes_none p (target p c.args.call.now) c.args.pass.now.view.taken c.refuse.new.pass.view.taken c.refuse.ensures.taken
+
+pub returns-in-Ready-clause-taken : goal.returns-in-Ready-clause-taken
+returns-in-Ready-clause-taken g t c =
+    let p = c.args.plan.now in takes_none p (target p c.args.call.now) c.args.pass.now.view.taken c.perform.new.pass.view.taken c.perform.ensures.taken

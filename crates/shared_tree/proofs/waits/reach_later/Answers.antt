@@ -4,6 +4,7 @@ use Rattle.tree_rules.specs.Chain.{target}
 use Rattle.shared_tree.specs.Rows.{what_of, room_of}
 use Rattle.shared_tree.proofs.Reaching.{lies, on_path, unheld, none_there, has_room, reaches, is_of_now, carries_on}
 use Rattle.shared_tree.proofs.Staying.{carry_over, met_later, reaches_later}
+use Rattle.shared_tree.proofs.Taking.{takes_one_later}
 use Rattle.shared_tree.proofs.waits.reach_later.Goals as goal
 
 pub target-target-requires : goal.target-target-requires
@@ -50,3 +51,9 @@ returns-clause-met g c =
     let l = lies g.S.Samples.told g.S.Samples.faults p c.args.call.now c.args.input.now c.args.row.now c.args.turns.now.table.slots c.args.pass.now.view c.requires.carrying c.args.slot c.requires.next in
     met_later g.S.Samples.told g.S.Samples.faults c.args.slot c.target-target.result c.take_later-value.result c.args.pass.now.view c.take_later-value.new.pass.view
     (path p (target p c.args.call.now)) l.0 c.take_later-value.ensures.took
+
+pub returns-clause-taken : goal.returns-clause-taken
+returns-clause-taken g c =
+    let p = c.args.plan.now in
+    let l = lies g.S.Samples.told g.S.Samples.faults p c.args.call.now c.args.input.now c.args.row.now c.args.turns.now.table.slots c.args.pass.now.view c.requires.carrying c.args.slot c.requires.next in
+    takes_one_later p (target p c.args.call.now) g.S.Samples.told g.S.Samples.faults c.args.slot c.target-target.result l.0 c.target-target.ensures c.take_later-value.result c.args.pass.now.view c.take_later-value.new.pass.view c.take_later-value.ensures.took
