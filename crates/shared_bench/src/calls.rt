@@ -113,6 +113,7 @@ fn ask_each<R: Threads + Wait + Sync>(
 }
 
 // The calls of all callers, each in a thread of its own.
+#[tactic(auto, using(shared_tree::proofs::Ready::ready_on, crate::proofs::Counting::ready_new))]
 fn ask_all<R: Threads + Wait + Sync>(
     rt: &R,
     tree: &SharedTree<Recorded>,
@@ -142,6 +143,7 @@ fn last_pass(
 }
 
 // Closes the tree. Where there is no memory for that, the last caller asks the tree that came back once more.
+#[tactic(auto, using(shared_tree::proofs::Ready::passes_of))]
 fn close<R: Wait>(
     rt: &R,
     alloc: Global,
