@@ -1,10 +1,10 @@
 -- Rows of bytes: sums, zeros at the end, and the encryptions of counted values.
-use Rattle.std.proofs.Common.{◌≡◌, ◌<◌, ◌≤◌, ℕ, zero, suc, ◌+◌, ◌/◌, ◌-◌, ◌*◌, List, [], ◌++◌, length, take, drop, replicate, refl, sym, ap, subst, ◌∙◌, arith, add-one, append_assoc, append-nil, length-append}
+use Rattle.std.proofs.Common.{◌≡◌, ◌≤◌, ℕ, zero, suc, ◌+◌, ◌-◌, ◌*◌, List, [], ◌++◌, length, take, drop, replicate, refl, sym, ap, subst, ◌∙◌, arith, add-one, append_assoc, append-nil, length-append}
 use Rattle.std.specs.Prelude.{bit_xor}
 use Rattle.std.proofs.Math.Seq.{take-append-add, take-append_seam, drop-append_seam}
 use Rattle.std.proofs.lemmas.Simd.{length-zip2}
 use Rattle.rbg_bytes.specs.Xor.{xor_bytes}
-use Rattle.std.proofs.lemmas.List.{drop-replicate, drop-take, length-replicate, length-take-le, take-append-le, take-replicate, take_all}
+use Rattle.std.proofs.lemmas.List.{drop-replicate, drop-take, length-replicate, length-take-le, take-append-le, take-replicate}
 use Rattle.aes_core.specs.Aes.{aes}
 use Rattle.df_core.specs.Df.{blocks_for}
 use Rattle.ctr_drbg.proofs.Lengths.{length-stream}

@@ -1,6 +1,6 @@
 -- One draw more.
-use Rattle.std.proofs.Common.{◌≡◌, ◌≤◌, ◌<◌, ◌^◌, ◌∙◌, ℕ, ◌+◌, List, [], ◌∷◌, ◌++◌, refl, sym, ap, subst, add-one, arith, Bool, true, false}
-use Rattle.std.specs.Prelude.{Option, Ok, Err, Result, Some, nat_lt}
+use Rattle.std.proofs.Common.{◌≡◌, ◌≤◌, ◌<◌, ◌∙◌, ℕ, ◌+◌, List, [], ◌++◌, refl, sym, add-one, arith, Bool, true, false}
+use Rattle.std.specs.Prelude.{Option, Ok, Err, Result, nat_lt}
 use Rattle.std.proofs.lemmas.Bool.Decides.{nat_tests}
 use Rattle.entropy_source.specs.Views.{SourceView, HasDrawn}
 use Rattle.entropy_source.specs.declared.answers.Range.{Range}

@@ -1,7 +1,7 @@
 -- Ends of the program's own, and the counts of faults.
 use Rattle.std.proofs.Common.{◌≡◌, ℕ}
 use Rattle.rbg_talk.specs.declared.status.Status.{Status}
-use Rattle.rbg_talk.specs.declared.status.Status.TheVariants.{Done, Cut, Refused, ReadFault, WriteFault}
+use Rattle.rbg_talk.specs.declared.status.Status.TheVariants.{ReadFault, WriteFault}
 use Rattle.rbg_talk.specs.Causes.{HasReadCause, HasWriteCause, IsOwnEnd, IsTellEnd}
 
 pub own_read : (before now : ℕ) (status : Status) → IsOwnEnd status → now ≡ before → HasReadCause before now status

@@ -1,5 +1,5 @@
 -- The status of an input that is served to its end, and the laws of reply frames on which it rests.
-use Rattle.std.proofs.Common.{◌≡◌, ◌≤◌, ◌<◌, inl, inr, ℕ, zero, suc, ◌+◌, ◌∷◌, List, [], ◌++◌, length, take, drop, sym, ap, ◌∙◌, arith, length-append, append_assoc, append-nil, refl, subst, take-append-drop, take-take}
+use Rattle.std.proofs.Common.{◌≡◌, ◌≤◌, ◌<◌, inl, inr, ℕ, zero, suc, ◌+◌, ◌∷◌, List, [], ◌++◌, length, take, drop, sym, ap, ◌∙◌, arith, length-append, append-nil, refl, subst, take-append-drop, take-take}
 use Rattle.std.specs.Prelude.{Option, Some, None, slice_index}
 use Rattle.std.specs.Io.KnownBytes.{Consumes}
 use Rattle.std.proofs.lemmas.List.{take-append-le}
@@ -16,9 +16,9 @@ use Rattle.rbg_talk.specs.declared.top.Command.TheVariants as commands
 use Rattle.rbg_talk.specs.declared.status.Status.{Status}
 use Rattle.rbg_talk.specs.declared.status.Status.TheVariants.{Done, Usage, Line, Malformed, Cut, ReadFault, WriteFault, Refused, Memory, Quota}
 use Rattle.rbg_talk.specs.Lines.{lines}
-use Rattle.rbg_talk.specs.Asking.{Wrong, first_fault}
+use Rattle.rbg_talk.specs.Asking.{first_fault}
 use Rattle.rbg_talk.specs.Ends.{AskEnds, ReplyEnds, IsBadReplyAt, most_bytes, refusals}
-use Rattle.rbg_talk.specs.Run.{Outside, Passes, CommandEnds, HelpEnds, IsCommand, command_word, Ran, HasStatusCause, NoneRose, CanBeServed, ask_status, tell_status, IsUnlessMemory, IsComplete}
+use Rattle.rbg_talk.specs.Run.{Outside, Passes, CommandEnds, HelpEnds, IsCommand, command_word, Ran, HasStatusCause, NoneRose, ask_status, tell_status, IsUnlessMemory, IsComplete}
 
 -- ---- replies in a row
 

@@ -1,7 +1,7 @@
 -- How `ask` goes on by a line, and how it ends.
-use Rattle.std.proofs.Common.{◌≡◌, ◌<◌, ◌≤◌, ℕ, ◌+◌, ◌∷◌, List, [], ◌++◌, length, take, ◌^◌, Bool, true, false, cond, sym, ap, ◌∙◌, arith, length-append, append_assoc, append-nil, add-zero, add_assoc, refl, subst, inl, inr, lt-ltb}
+use Rattle.std.proofs.Common.{◌≡◌, ◌<◌, ◌≤◌, ℕ, ◌+◌, ◌∷◌, List, [], ◌++◌, length, take, ◌^◌, Bool, true, false, cond, sym, ap, ◌∙◌, arith, length-append, append_assoc, append-nil, add-zero, refl, subst, inl, inr, lt-ltb}
 use Rattle.std.specs.declared.option.Option.{Option}
-use Rattle.std.specs.Prelude.{Some, None, Result, Ok, Err, nat_lt}
+use Rattle.std.specs.Prelude.{Some, None, Result, Ok, Err}
 use Rattle.std.specs.List.{All, slice_split, onto_first}
 use Rattle.std.specs.Io.KnownBytes.{Appends, Consumes, Keeps, IsAtEnd}
 use Rattle.std.proofs.KnownBytes.{Appends-trans, Appends-nil, Consumes-nil, Consumes-trans, Consumes-kept}
@@ -17,9 +17,9 @@ use Rattle.rbg_talk.specs.declared.status.Status.TheVariants.{Done, Line, ReadFa
 use Rattle.rbg_talk.specs.Lines.{is_line_feed, lines, words}
 use Rattle.rbg_talk.specs.Calls.{line_says, said}
 use Rattle.rbg_talk.specs.Asking.{Wrong, then_calls, then_fault, calls, first_fault, frame_behind, frames_behind, frames}
-use Rattle.rbg_talk.specs.Ends.{IsFirstFault, StopsIn, StopsBehindLines, AskEnds, most_bytes}
+use Rattle.rbg_talk.specs.Ends.{StopsBehindLines, AskEnds, most_bytes}
 use Rattle.rbg_talk.specs.Causes.{IsWriteEnd}
-use Rattle.rbg_talk.specs.Asker.{line_of, listed, text_behind, LineStops, Passed, Wrote, WritesSaid, EndsLine, Begins, Stands, StandsAt, Stops, Asks}
+use Rattle.rbg_talk.specs.Asker.{line_of, listed, text_behind, LineStops, Passed, WritesSaid, EndsLine, Begins, Stands, StandsAt, Stops, Asks}
 use Rattle.rbg_talk.proofs.Pieces.{taken_still}
 
 -- ---- lines one after another

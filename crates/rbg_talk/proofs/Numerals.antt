@@ -1,13 +1,13 @@
 -- Numbers in decimal digits.
-use Rattle.std.proofs.Common.{zero, suc, inl, inr, ◌≡◌, ◌<◌, ◌≤◌, ◌^◌, ℕ, ◌+◌, List, [], ◌∷◌, ◌&&◌, length, drop, get_or, Bool, true, false, cond, refl, sym, ap, ◌∙◌, subst, arith, lt-ltb, drop_of_length-le}
-use Rattle.std.specs.Prelude.{Option, Some, None, Result, Ok, Err, nat_lt, slice_index}
+use Rattle.std.proofs.Common.{zero, suc, inl, inr, ◌≡◌, ◌<◌, ◌≤◌, ◌^◌, ℕ, ◌+◌, List, [], ◌∷◌, ◌&&◌, length, drop, get_or, Bool, true, false, cond, refl, sym, ap, ◌∙◌, arith, lt-ltb, drop_of_length-le}
+use Rattle.std.specs.Prelude.{Some, None, Result, Err}
 use Rattle.std.specs.Char.{is_ascii_digit}
 use Rattle.std.specs.Str.{all_ascii_digits, IsUtf8, IsAscii}
 use Rattle.std.specs.Str.Parse.{ParsesUnsigned, digits_value}
 use Rattle.std.specs.Result.{OkIff}
 use Rattle.std.proofs.lemmas.Result.{OkIff-at_err}
 use Rattle.std.proofs.lemmas.Str.{IsUtf8-from_ascii}
-use Rattle.std.proofs.lemmas.Str.Parse.{numerals_by_value, tells_all_ascii_digits, parse_digits, IsNumeralModel, IsDigitsTest}
+use Rattle.std.proofs.lemmas.Str.Parse.{numerals_by_value, tells_all_ascii_digits, parse_digits, IsNumeralModel}
 use Rattle.std.proofs.lemmas.Bool.{cases_lt}
 use Rattle.rbg_talk.specs.Words.{number_up_to, value_up_to}
 use Rattle.rbg_talk.proofs.Wording.{dropped}

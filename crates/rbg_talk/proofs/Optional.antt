@@ -1,5 +1,5 @@
 -- Options one after another.
-use Rattle.std.proofs.Common.{◌<◌, ◌≡◌, ℕ, List, [], ◌∷◌, Bool, true, false, cond, length, refl, sym, ap, ◌∙◌, subst, arith, eqb-true}
+use Rattle.std.proofs.Common.{◌<◌, ◌≡◌, ℕ, List, [], ◌∷◌, Bool, true, false, cond, length, refl, sym, ap, ◌∙◌, arith, eqb-true}
 use Rattle.std.specs.Prelude.{Result, Ok, Err, codes, ◌==◌}
 use Rattle.std.specs.Str.{bytes_eq}
 use Rattle.rbg_talk.specs.declared.grammar.Operation.{Operation}

@@ -1,5 +1,5 @@
 -- Calls are requests that frames may have.
-use Rattle.std.proofs.Common.{List, [], ◌∷◌, true≢false, ◌≡◌, ◌<◌, ◌≤◌, ◌^◌, ℕ, Bool, true, false, refl, sym, ap, ◌∙◌, subst, arith, inl, inr, lit≤}
+use Rattle.std.proofs.Common.{[], ◌∷◌, true≢false, ◌≡◌, ◌<◌, ◌≤◌, ◌^◌, ℕ, Bool, true, false, refl, sym, subst, arith, inl, lit≤}
 use mir.Val.{bool_byte}
 use Rattle.std.specs.Prelude.{Option, Some, None, unwrap_or, IsSome, IfSome}
 use Rattle.frame_codec.specs.declared.frames.Request.{Request}

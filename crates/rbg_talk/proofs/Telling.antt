@@ -1,18 +1,17 @@
 -- How `show` and `bytes` go on by a byte of a reply, and how they end.
-use Rattle.std.proofs.Common.{◌≡◌, ◌<◌, ◌≤◌, ℕ, ◌+◌, ◌∷◌, List, [], ◌++◌, length, take, drop, Bool, true, false, cond, sym, ap, ◌∙◌, arith, true≢false, ◌^◌, length-append, append_assoc, append-nil, refl, subst, inl, inr, ◌⊎◌, flat_map, count_by, length-take, take-append-drop}
+use Rattle.std.proofs.Common.{◌≡◌, ◌<◌, ℕ, ◌+◌, ◌∷◌, List, [], ◌++◌, length, take, Bool, true, false, cond, sym, ap, ◌∙◌, arith, true≢false, ◌^◌, length-append, append_assoc, append-nil, refl, subst, inl, inr}
 use Rattle.std.specs.declared.option.Option.{Option}
 use Rattle.std.specs.Prelude.{Result, Ok, Err, OnOk, IfErr, nat_eq, if◌then◌else◌}
 use Rattle.std.specs.List.{AllByRecursion}
 use Rattle.std.specs.Io.KnownBytes.{Appends, Consumes, Keeps, IsAtEnd}
 use Rattle.std.proofs.KnownBytes.{Appends-trans, Appends-nil, Consumes-nil, Consumes-trans, Consumes-kept}
 use Rattle.std.proofs.lemmas.List.Sums.{sum_by-append}
-use Rattle.std.proofs.lemmas.List.{take_at, take_all, take-append-le, take_min}
+use Rattle.std.proofs.lemmas.List.{take_at}
 use Rattle.rbg_bytes.specs.Streams.{AppendsFront, TakesAll}
 use Rattle.frame_codec.specs.declared.frames.ReplyHead.{ReplyHead}
-use Rattle.frame_codec.specs.declared.reply_decoder.ReplyStep.{ReplyStep}
 use Rattle.frame_codec.specs.declared.reply_decoder.ReplyStep.TheVariants.{More, Head, Payload, Bad}
-use Rattle.frame_codec.specs.Rows.{spelled, why_at, Takes}
-use Rattle.frame_codec.specs.Grammar.{IsFramed, text_of}
+use Rattle.frame_codec.specs.Rows.{spelled}
+use Rattle.frame_codec.specs.Grammar.{IsFramed}
 use Rattle.frame_codec.specs.Frames.{Replied, IsReplyHead, IsReplyScript, replies, reply_fields, reply_numbers, reply_of}
 use Rattle.frame_codec.specs.Replying.{Replying, ReplySteps, ReplyReads, Holds}
 use Rattle.frame_codec.proofs.Rows.{spelled-one}
@@ -23,7 +22,7 @@ use Rattle.rbg_talk.specs.declared.tell.Teller.{Teller}
 use Rattle.rbg_talk.specs.declared.status.Status.{Status}
 use Rattle.rbg_talk.specs.declared.status.Status.TheVariants.{Done, Malformed, Cut, Refused, ReadFault, WriteFault, Quota}
 use Rattle.rbg_talk.specs.Shown.{written}
-use Rattle.rbg_talk.specs.Ends.{IsBadReplyAt, BeginsWithReplies, StopsIn, ReplyEnds, all_written, refusals, is_refusal, most_bytes}
+use Rattle.rbg_talk.specs.Ends.{BeginsWithReplies, ReplyEnds, all_written, refusals, is_refusal, most_bytes}
 use Rattle.rbg_talk.specs.Causes.{IsWriteEnd}
 use Rattle.rbg_talk.specs.Teller as tellers
 use Rattle.rbg_talk.specs.Teller.{Begins, SameReply, EndsReply, Stands, StandsAt, GoesOn, Stops, Tells}

@@ -1,5 +1,5 @@
 -- Words between blanks.
-use Rattle.std.proofs.Common.{◌≡◌, ◌<◌, ◌≤◌, ℕ, ◌+◌, ◌-◌, List, [], ◌∷◌, ◌++◌, Bool, true, false, cond, get_or, length, take, drop, refl, sym, ap, ◌∙◌, subst, append-nil, ◌⊎◌, inl, inr, arith, add-one, drop-cons, take-append-drop, length-drop}
+use Rattle.std.proofs.Common.{◌≡◌, ◌<◌, ℕ, ◌+◌, ◌-◌, List, [], ◌∷◌, ◌++◌, Bool, true, false, cond, get_or, length, take, drop, refl, sym, ap, ◌∙◌, append-nil, ◌⊎◌, inl, inr, arith, add-one, drop-cons, take-append-drop, length-drop}
 use Rattle.std.specs.Prelude.{slice_index}
 use Rattle.std.specs.List.{All, slice_split, onto_first, filter}
 use Rattle.std.proofs.lemmas.List.{take_all}

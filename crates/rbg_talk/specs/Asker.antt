@@ -1,11 +1,10 @@
 -- What `ask` keeps between two bytes of its input, and how it goes on and ends.
 -- This project's own.
-use Rattle.std.specs.Prelude.{◌≡◌, ◌≤◌, ◌<◌, ℕ, ◌+◌, ◌^◌, Bool, true, false, List, [], ◌∷◌, ◌++◌, length, take, All, Option, Some, None, Result, Ok, Err}
+use Rattle.std.specs.Prelude.{◌≡◌, ◌≤◌, ℕ, ◌+◌, ◌^◌, false, List, [], ◌∷◌, ◌++◌, length, take, All, Option, Some, None, Result, Ok, Err}
 use Rattle.std.specs.Io.KnownBytes.{Appends}
 use Rattle.rbg_bytes.specs.Streams.{AppendsFront}
 use Rattle.frame_codec.specs.Frames.{Asked}
 use Rattle.rbg_talk.specs.declared.ask.Asker.{Asker}
-use Rattle.rbg_talk.specs.declared.grammar.Fault.{Fault}
 use Rattle.rbg_talk.specs.declared.status.Status.{Status}
 use Rattle.rbg_talk.specs.declared.status.Status.TheVariants.{Line, WriteFault}
 use Rattle.rbg_talk.specs.Lines.{is_line_feed, lines}

@@ -9,7 +9,7 @@ use Rattle.rbg_talk.specs.declared.way.Way.{Way}
 use Rattle.rbg_talk.specs.declared.status.Status.{Status}
 use Rattle.rbg_talk.specs.declared.status.Status.TheVariants.{Done, Line, Malformed, Cut, ReadFault, WriteFault, Refused, Memory, Quota}
 use Rattle.rbg_talk.specs.Lines.{lines}
-use Rattle.rbg_talk.specs.Asking.{Wrong, calls, first_fault, frame_behind, frames}
+use Rattle.rbg_talk.specs.Asking.{calls, first_fault, frame_behind, frames}
 use Rattle.rbg_talk.specs.Shown.{written}
 
 -- so many bytes are read at most, but for the last read

@@ -1,6 +1,6 @@
 -- What has been read of a line: its options so far, and its call.
 -- This project's own.
-use Rattle.std.specs.Prelude.{◌≡◌, ◌≤◌, ◌<◌, ◌^◌, ℕ, true, false, List, [], length, take, option_map, IsSome, IfSome}
+use Rattle.std.specs.Prelude.{◌≡◌, ◌≤◌, ◌<◌, ◌^◌, ℕ, true, false, List, [], take, option_map, IsSome, IfSome}
 use Rattle.frame_codec.specs.declared.frames.Request.{Request}
 use Rattle.frame_codec.specs.Rows.{Takes}
 use Rattle.frame_codec.specs.Frames.{Asked, request_fields, request_numbers}

@@ -8,7 +8,6 @@ use Rattle.tree_rules.specs.History.{Entry, Opening}
 use Rattle.tree_rules.specs.Openings.{IsHistory}
 use Rattle.tree_core.specs.Made.{samples_in}
 use Rattle.tree_core.specs.Solo.{AreLong, OpensBy, SoloView, StandAfter}
-use Rattle.tree_core.specs.declared.refusal.OpenRefusal.TheVariants as refusals
 use Rattle.tree_core.proofs.Made.{samples_count}
 use Rattle.session_core.specs.Answers.{Answered, entries_of}
 use Rattle.session_core.specs.Session.{AreMade, HasReadCause, HasWriteCause, IsHeld}

@@ -1,17 +1,16 @@
 -- Reads of the samples of a tree's sources: none, those of a call, and those of calls in a row.
-use Rattle.std.proofs.Common.{◌≡◌, ◌∙◌, ◌+◌, ◌++◌, ◌∷◌, ◌<◌, ℕ, List, [], suc, length, map, refl, sym, ap, subst, arith, append-nil}
+use Rattle.std.proofs.Common.{◌≡◌, ◌∙◌, ◌+◌, ◌++◌, ◌∷◌, ℕ, List, [], suc, length, map, refl, sym, ap, subst, arith, append-nil}
 use Rattle.std.specs.Prelude.{Option, Some, None, slice_get}
 use Rattle.std.specs.Option.{option_map}
 use Rattle.std.proofs.lemmas.List.{length-map}
 use Rattle.std.proofs.lemmas.Option.{slice_get-map, slice_get_within}
 use Rattle.std.proofs.lemmas.Grind.{flat_map-append}
-use Rattle.health_tests.specs.Numbers.{no_tail}
 use Rattle.tree_config.specs.Tree.{Tree}
-use Rattle.entropy_source.specs.Views.{SourceView, opened_view}
+use Rattle.entropy_source.specs.Views.{SourceView}
 use Rattle.entropy_source.specs.Reads.{LeadBy}
 use Rattle.entropy_source.proofs.Leading.{lead_on}
 use Rattle.rbg_nodes.specs.Views.{NodeView}
-use Rattle.tree_rules.specs.Slots.{source_row, source_slot}
+use Rattle.tree_rules.specs.Slots.{source_slot}
 use Rattle.tree_rules.specs.History.{Act, Entry, acts_of, at_slot}
 use Rattle.tree_rules.proofs.Sources.{at_slot-append}
 use Rattle.tree_acts.specs.Did.{AreMade}

@@ -1,7 +1,6 @@
 -- The tests of a call's source keep something after a legal history.
-use Rattle.std.proofs.Common.{◌≡◌, ◌++◌, ℕ, List, Bool, true, sym, ap, subst}
-use Rattle.std.specs.Prelude.{Option, Some, IsSome}
-use Rattle.tree_config.specs.Tree.{Tree}
+use Rattle.std.proofs.Common.{◌≡◌, ◌++◌, ℕ, List, true, sym, subst}
+use Rattle.std.specs.Prelude.{Some, IsSome}
 use Rattle.tree_rules.specs.History.{Entry, Opening, States, opened, source_in, states_after}
 use Rattle.tree_rules.specs.Slots.{source_slot}
 use Rattle.tree_rules.specs.Chain.{SourceLink, source_at}

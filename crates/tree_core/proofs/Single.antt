@@ -10,7 +10,7 @@ use Rattle.tree_rules.specs.declared.call.Call.{Call}
 use Rattle.tree_rules.specs.declared.call.Call.TheVariants.{Start, Status, Uninstantiate}
 use Rattle.tree_rules.specs.declared.reply.Reply.{Reply}
 use Rattle.tree_rules.specs.Slots.{source_row, source_slot}
-use Rattle.tree_rules.specs.History.{Act, AtNode, States, has, node_in, own, slot_after_all, source_in}
+use Rattle.tree_rules.specs.History.{Act, AtNode, States, has, node_in, source_in}
 use Rattle.tree_rules.specs.Chain.{Chain, named, slots_of, source_at}
 use Rattle.tree_rules.specs.Replies.{chain_by, chain_of, chain_rows, first_reply, plain_rows, refusal, there_are}
 use Rattle.tree_rules.specs.Fits.{AnswersBy, Serves, at_source, done, found_by, start_reply, status_bytes}

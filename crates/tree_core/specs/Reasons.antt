@@ -1,6 +1,6 @@
 -- Why a call got its reply.
 -- This project's own; SP 800-90B 4.3 for the alarm.
-use Rattle.std.specs.Prelude.{◌≡◌, ◌↔◌, ℕ, List, [], Option, Some, None}
+use Rattle.std.specs.Prelude.{◌≡◌, ◌↔◌, ℕ, List, [], Some, None}
 use Rattle.tree_config.specs.Tree.{Tree}
 use Rattle.entropy_source.specs.Source.{source_after_all}
 use Rattle.tree_rules.specs.declared.reply.Reply.{Reply}

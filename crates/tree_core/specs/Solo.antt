@@ -1,13 +1,13 @@
 -- The one-thread tree: what contracts see of it, what it is opened over, and how it stands after a history.
 -- This project's own.
-use Rattle.std.specs.Prelude.{◌≡◌, ◌<◌, ◌++◌, ℕ, List, [], ◌∷◌, map, length, slice_get, unwrap_or, Option, Some, None}
+use Rattle.std.specs.Prelude.{◌≡◌, ◌<◌, ◌++◌, ℕ, List, [], ◌∷◌, length, slice_get, unwrap_or, Option, Some, None}
 use Rattle.tree_config.specs.Tree.{Tree}
-use Rattle.entropy_source.specs.Views.{SourceView, source_state}
+use Rattle.entropy_source.specs.Views.{SourceView}
 use Rattle.rbg_nodes.specs.Views.{NodeView, too_short}
 use Rattle.tree_rules.specs.declared.call.Call.{Call}
 use Rattle.tree_rules.specs.declared.reply.Reply.{Reply}
-use Rattle.tree_rules.specs.Slots.{node_row, source_row, source_slot}
-use Rattle.tree_rules.specs.History.{Entry, Opening, States, NodeIs, SourceIs, acts_of, opened}
+use Rattle.tree_rules.specs.Slots.{node_row}
+use Rattle.tree_rules.specs.History.{Entry, Opening, acts_of, opened}
 use Rattle.tree_rules.specs.Openings.{IsOpening, IsHistory, states_behind}
 pub use Rattle.tree_rules.specs.Stands.{IsGiven, StandAfter, StandIn}
 use Rattle.tree_rules.specs.Apart.{Apart}

@@ -13,7 +13,7 @@ use Rattle.health_tests.specs.declared.windows.Alarm.{Alarm}
 use Rattle.health_tests.specs.declared.windows.Test.{Test}
 use Rattle.entropy_source.specs.Counted.{samples_of, gave_none, has_failed}
 use Rattle.entropy_source.specs.Draws as draws
-use Rattle.entropy_source.specs.Draws.{Drawn, Gathers, found_in, portions}
+use Rattle.entropy_source.specs.Draws.{Drawn, found_in, portions}
 use Rattle.entropy_source.specs.Source.{Began, SourceAct, Started, blocks_for, need_of, source_after, source_after_all}
 use Rattle.entropy_source.specs.declared.answers.SourceRefusal.{SourceRefusal}
 use Rattle.tree_config.specs.Planned.{IsPlanned}

@@ -3,7 +3,7 @@ use Rattle.std.proofs.Common.{◌≡◌, ℕ, List, [], ◌∷◌, refl, sym, ap
 use Rattle.std.specs.Prelude.{◌==◌, ◌||◌, if◌then◌else◌}
 use Rattle.tree_rules.specs.History.{Entry, Opening, States, SlotState, has, after, opened, states_after}
 use Rattle.tree_rules.specs.Codes as codes
-use Rattle.tree_rules.specs.Codes.{numbers, list_of, entry_list}
+use Rattle.tree_rules.specs.Codes.{numbers, entry_list}
 use Rattle.tree_rules.specs.Fits.{Fits}
 use Rattle.tree_rules.specs.Table.{opening_list, has_at_front, touches, after_entry, slot_list, slot_state, Tells, FitsLists, LegalLists, Reads, lists_after}
 use Rattle.tree_rules.proofs.Coding.{numbers_back, entry_back, opening_back, list_back}

@@ -13,7 +13,6 @@ use Rattle.vector_text.specs.declared.spot.Answer as answers
 use Rattle.vector_text.specs.Feeding.{Follows, Window, most_bytes}
 use Rattle.vector_text.specs.Text.{Entry, ASkip, AFault, TheEnd, Place, at_start, entries_from}
 use Rattle.vector_text.specs.declared.case.Case.{Case}
-use Rattle.vector_text.specs.Reading as reads
 use Rattle.vector_text.specs.Reading.{Begins, Gives, Leads, Reader, left_of}
 use Rattle.vector_replay.specs.declared.totals.Totals.{Totals}
 use Rattle.vector_replay.specs.declared.totals.ReplayRefusal.{ReplayRefusal}

@@ -1,4 +1,4 @@
-// Calls without strings, with the first bytes of their answers.
+// Calls, with the first bytes of their answers.
 ghost use Rattle.std.specs.Prelude.{◌≡◌, IfOk};
 ghost use Rattle.shared_tree.specs.Passes.{IsPassOf};
 
@@ -40,7 +40,7 @@ pub(crate) fn heard(reply: Reply, out: &[u8; 65536]) -> Said {
     }
 }
 
-// There is an answer but where the caller has made 2^40 calls.
+// Makes a call without a string. There is an answer but where the caller has made 2^40 calls.
 pub(crate) fn try_ask<S: Samples>(
     tree: &SharedTree<S>,
     pass: &mut TreePass<S>,
@@ -60,12 +60,13 @@ pub(crate) fn try_ask<S: Samples>(
     }
 }
 
-// The same, but it waits.
+// The same, with a string, and it waits.
 pub(crate) fn ask<S: Samples, R: Wait>(
     rt: &R,
     tree: &SharedTree<S>,
     pass: &mut TreePass<S>,
     call: Call,
+    string: &str,
 ) -> Option<Said>
     requires pass { IsPassOf tree.now pass.old }
     ensures pass { IsPassOf tree.entry.now pass.new }
@@ -75,6 +76,6 @@ pub(crate) fn ask<S: Samples, R: Wait>(
         return None;
     }
     let mut out = [0u8; 65536];
-    let reply = tree.call(rt, pass, &call, &[], &mut out);
+    let reply = tree.call(rt, pass, &call, string.as_bytes(), &mut out);
     Some(heard(reply, &out))
 }

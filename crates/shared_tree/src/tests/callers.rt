@@ -20,7 +20,7 @@ fn ask_first<R: Wait>(rt: &R, tree: &SharedTree<Recorded>, pass: &mut TreePass<R
     ensures pass { IsPassOf tree.entry.now pass.new }
     ensures opening { pass.new.view.opening ≡ pass.old.view.opening }
 {
-    ask(rt, tree, pass, generate(0, false));
+    ask(rt, tree, pass, generate(0, false), "");
 }
 
 fn ask_each<R: Threads + Wait + Sync>(

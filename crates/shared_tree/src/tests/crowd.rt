@@ -28,7 +28,7 @@ fn restart<R: Wait>(rt: &R, tree: &SharedTree<Recorded>, pass: &mut TreePass<Rec
     ensures opening { pass.new.view.opening ≡ pass.old.view.opening }
 {
     for _ in 0..16 {
-        if let Some(said) = ask(rt, tree, pass, Call::Start { source: 0 }) {
+        if let Some(said) = ask(rt, tree, pass, Call::Start { source: 0 }, "") {
             if said.code == 0 {
                 return;
             }
@@ -36,19 +36,20 @@ fn restart<R: Wait>(rt: &R, tree: &SharedTree<Recorded>, pass: &mut TreePass<Rec
     }
 }
 
-// Asks a node for bytes, and keeps them. After an alarm the source is started.
+// Asks a node for bytes with a string, and keeps them. After an alarm the source is started.
 fn output<R: Wait>(
     rt: &R,
     tree: &SharedTree<Recorded>,
     pass: &mut TreePass<Recorded>,
     node: u16,
+    string: &str,
     log: &mut Log,
 )
     requires pass { IsPassOf tree.now pass.old }
     ensures pass { IsPassOf tree.entry.now pass.new }
     ensures opening { pass.new.view.opening ≡ pass.old.view.opening }
 {
-    let Some(said) = ask(rt, tree, pass, generate(node, false)) else {
+    let Some(said) = ask(rt, tree, pass, generate(node, false), string) else {
         return;
     };
     if said.code == 13 {
@@ -65,14 +66,20 @@ fn gives(said: &Said) -> u64 {
     u64::from_be_bytes(gives)
 }
 
-// Ends the life of node 1 and begins a new one. Between the two nothing is given, and its status says how often it gave.
-fn renew<R: Wait>(rt: &R, tree: &SharedTree<Recorded>, pass: &mut TreePass<Recorded>, log: &mut Log)
+// Ends the life of node 1 and begins a new one, with a string. Between the two nothing is given, and its status says how often it gave.
+fn renew<R: Wait>(
+    rt: &R,
+    tree: &SharedTree<Recorded>,
+    pass: &mut TreePass<Recorded>,
+    string: &str,
+    log: &mut Log,
+)
     requires pass { IsPassOf tree.now pass.old }
     ensures pass { IsPassOf tree.entry.now pass.new }
     ensures opening { pass.new.view.opening ≡ pass.old.view.opening }
 {
-    ask(rt, tree, pass, Call::Uninstantiate { node: 1 });
-    if let Some(said) = ask(rt, tree, pass, Call::Status { node: 1 }) {
+    ask(rt, tree, pass, Call::Uninstantiate { node: 1 }, "");
+    if let Some(said) = ask(rt, tree, pass, Call::Status { node: 1 }, "") {
         if log.ends.push(gives(&said)).is_err() {
             log.caller = 0;
         }
@@ -81,8 +88,16 @@ fn renew<R: Wait>(rt: &R, tree: &SharedTree<Recorded>, pass: &mut TreePass<Recor
         node: 1,
         strength: 0,
     };
-    ask(rt, tree, pass, again);
+    ask(rt, tree, pass, again, string);
 }
+
+// The string of each branch's calls: additional input and, where a life begins, the personalization string.
+const STRINGS: [&str; 4] = [
+    "",
+    "of the second branch",
+    "of the third branch",
+    "of the fourth branch",
+];
 
 // A thousand calls or a few more: the first four callers each on a branch, and the next four on the same ones.
 fn run<R: Wait>(rt: &R, tree: &SharedTree<Recorded>, pass: &mut TreePass<Recorded>, log: &mut Log)
@@ -91,12 +106,13 @@ fn run<R: Wait>(rt: &R, tree: &SharedTree<Recorded>, pass: &mut TreePass<Recorde
     ensures opening { pass.new.view.opening ≡ pass.old.view.opening }
 {
     let node = (u16::from(pass.caller()) + 3) % 4;
+    let string = STRINGS[usize::from(node)];
     let renews = pass.caller() == 2;
     for i in 0..1000u32 {
         if renews && i % 100 == 50 {
-            renew(rt, tree, pass, log);
+            renew(rt, tree, pass, string, log);
         } else {
-            output(rt, tree, pass, node, log);
+            output(rt, tree, pass, node, string, log);
         }
     }
 }
@@ -162,12 +178,12 @@ fn run_all<R: Threads + Wait + Sync>(
 }
 
 // What the one-thread tree answers.
-fn solo(tree: &mut SoloTree<Recorded>, call: Call) -> Result<Said, Fail> {
+fn solo(tree: &mut SoloTree<Recorded>, call: Call, string: &str) -> Result<Said, Fail> {
     if tree.calls() >= 1 << 40 {
         return Err(Fail::from("too many calls"));
     }
     let mut out = [0u8; 65536];
-    let reply = tree.call(&call, &[], &mut out);
+    let reply = tree.call(&call, string.as_bytes(), &mut out);
     Ok(heard(reply, &out))
 }
 
@@ -176,6 +192,7 @@ fn replay(
     alloc: Global,
     tree: &mut SoloTree<Recorded>,
     node: u16,
+    string: &str,
     total: usize,
     ends: &[u64],
 ) -> Result<Vec<[u8; 32]>, Fail> {
@@ -183,17 +200,17 @@ fn replay(
     let mut ended = 0;
     for _ in 0..10_000 {
         if ended < ends.len() && ends[ended] == outputs.len() as u64 {
-            solo(tree, Call::Uninstantiate { node })?;
-            solo(tree, Call::Instantiate { node, strength: 0 })?;
+            solo(tree, Call::Uninstantiate { node }, "")?;
+            solo(tree, Call::Instantiate { node, strength: 0 }, string)?;
             ended += 1;
         } else if outputs.len() == total {
             return Ok(outputs);
         } else {
-            let said = solo(tree, generate(node, false))?;
+            let said = solo(tree, generate(node, false), string)?;
             match said.code {
                 0 => outputs.push(said.bytes)?,
                 13 => {
-                    solo(tree, Call::Start { source: 0 })?;
+                    solo(tree, Call::Start { source: 0 }, "")?;
                 }
                 _ => return Err(Fail::from("refused")),
             }
@@ -280,7 +297,9 @@ fn eight_callers_get_what_one_gets(rt: HostRuntime) -> Result<(), Fail> {
             "branch {branch} gave {total} outputs"
         );
         assert_eq!(rt; first.ends.len(), ends);
-        let outputs = replay(alloc, &mut one, u16::from(branch), total, &first.ends)?;
+        let string = STRINGS[usize::from(branch)];
+        let node = u16::from(branch);
+        let outputs = replay(alloc, &mut one, node, string, total, &first.ends)?;
         assert!(rt;
             is_merged(&outputs, &first.outputs, &second.outputs),
             "branch {branch}"

@@ -64,7 +64,7 @@ fn is_done<R: Wait>(
     ensures pass { IsPassOf tree.entry.now pass.new }
     ensures opening { pass.new.view.opening ≡ pass.old.view.opening }
 {
-    match ask(rt, tree, pass, call) {
+    match ask(rt, tree, pass, call, "") {
         Some(said) => said.gives(want),
         None => false,
     }
@@ -81,7 +81,7 @@ fn is_answered<R: Wait>(
     ensures pass { IsPassOf tree.entry.now pass.new }
     ensures opening { pass.new.view.opening ≡ pass.old.view.opening }
 {
-    match ask(rt, tree, pass, call) {
+    match ask(rt, tree, pass, call, "") {
         Some(said) => said.code == 0,
         None => false,
     }

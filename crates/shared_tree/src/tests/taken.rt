@@ -49,7 +49,7 @@ fn told<S: Samples>(
 }
 
 // Takes the last of some passes.
-fn last_pass<S: Samples>(
+pub(crate) fn last_pass<S: Samples>(
     tree: &SharedTree<S>,
     passes: &mut Vec<TreePass<S>>,
 ) -> Result<TreePass<S>, Fail>

@@ -1,4 +1,4 @@
-use Rattle.std.proofs.Common.{◌+◌, ◌-◌, ◌*◌, ◌/◌, length, arith}
+use Rattle.std.proofs.Common.{◌+◌, ◌-◌, ◌*◌, ◌/◌, arith}
 use Rattle.ctr_drbg.proofs.Fours.{fours_and_ones}
 use Rattle.ctr_drbg.proofs.stream.row_of.Goals as goal
 

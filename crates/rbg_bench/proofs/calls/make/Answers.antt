@@ -1,4 +1,4 @@
-use Rattle.std.proofs.Common.{◌≡◌, ◌∙◌, ◌≤◌, ◌+◌, ap, arith, refl, sym, take}
+use Rattle.std.proofs.Common.{◌≡◌, ◌∙◌, ◌+◌, ap, arith, refl, sym, take}
 use Rattle.sha2.specs.Hashers.{Holds256}
 use Rattle.rbg_bench.proofs.Making.{went_none, went_more}
 use Rattle.rbg_bench.proofs.calls.make.Goals as goal

@@ -1,5 +1,5 @@
-use Rattle.std.proofs.Common.{◌≡◌, ◌∙◌, ◌<◌, ◌≤◌, ◌+◌, ◌∷◌, ◌++◌, ◌^◌, [], ℕ, List, length, refl, subst, sym, arith}
-use Rattle.std.specs.Prelude.{Ok, Result}
+use Rattle.std.proofs.Common.{◌∙◌, ◌<◌, ◌≤◌, ◌+◌, ◌∷◌, ◌++◌, ◌^◌, [], ℕ, length, subst, sym, arith}
+use Rattle.std.specs.Prelude.{Result}
 use Rattle.entropy_source.specs.Source.{need_of}
 use Rattle.entropy_source.specs.Views.{HasDrawn}
 use Rattle.entropy_source.specs.declared.answers.Range.{Range}

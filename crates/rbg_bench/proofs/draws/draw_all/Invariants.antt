@@ -1,4 +1,4 @@
-use Rattle.std.proofs.Common.{◌≡◌, ◌≤◌, List, ℕ, length}
+use Rattle.std.proofs.Common.{◌≡◌, List, ℕ, length}
 use Rattle.sha2.specs.Hashers.{Holds256}
 use Rattle.entropy_source.specs.declared.answers.SourceMode.TheVariants.{Running}
 use Rattle.rbg_bench.specs.Draws.{Give}

@@ -1,4 +1,4 @@
-use Rattle.std.proofs.Common.{List, ℕ, map, refl, inl, inr}
+use Rattle.std.proofs.Common.{map, refl, inl, inr}
 use Rattle.std.specs.Prelude.{string_bytes}
 use Rattle.rbg_talk.proofs.Finishing.{complete}
 use Rattle.rbg_talk.proofs.top.run.Goals as goal

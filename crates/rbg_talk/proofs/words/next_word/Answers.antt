@@ -1,4 +1,3 @@
-use Rattle.std.proofs.Common.{rules}
 use Rattle.rbg_talk.proofs.Wording.{next_words, next_none}
 use Rattle.rbg_talk.proofs.words.next_word.Goals as goal
 

@@ -1,4 +1,4 @@
-use Rattle.std.proofs.Common.{◌≡◌, List, ℕ, sym, subst, arith}
+use Rattle.std.proofs.Common.{List, ℕ, sym, subst, arith}
 use Rattle.std.specs.Str.Parse.{ParsesUnsigned}
 use Rattle.rbg_talk.proofs.Numerals.{not_text, not_number}
 use Rattle.rbg_talk.proofs.words.number_up_to.Goals as goal

@@ -1,4 +1,4 @@
-use Rattle.std.proofs.Common.{◌≡◌, ◌≤◌, ◌+◌, List, ℕ, length, take, arith}
+use Rattle.std.proofs.Common.{◌≤◌, ◌+◌, length, arith}
 use Rattle.ctr_drbg.proofs.Rows.{update_is}
 use Rattle.ctr_drbg.proofs.drbg.CtrDrbg.update_by.Goals as goal
 

@@ -1,6 +1,6 @@
-use Rattle.std.proofs.Common.{◌≡◌, ◌<◌, ◌∙◌, [], ℕ, take, length, refl, sym, subst, arith, length-take}
+use Rattle.std.proofs.Common.{◌≡◌, ◌<◌, ◌∙◌, [], ℕ, take, length, refl, subst, arith, length-take}
 use Rattle.rbg_bytes.specs.Streams.{Rose}
-use Rattle.rbg_talk.specs.Causes.{HasReadCause, HasWriteCause}
+use Rattle.rbg_talk.specs.Causes.{HasWriteCause}
 use Rattle.rbg_talk.proofs.Causing.{own_read}
 use Rattle.rbg_talk.proofs.Lining.{taken_none, taken_more, asked_failed, asked_ended, asked_stopped, asked_quota}
 use Rattle.rbg_talk.proofs.ask.Asker.ask.Goals as goal

@@ -1,4 +1,4 @@
-use Rattle.std.proofs.Common.{◌≡◌, ◌∙◌, List, ℕ, ap, sym, subst, take}
+use Rattle.std.proofs.Common.{◌∙◌, List, ℕ, ap, sym, subst, take}
 use Rattle.std.specs.Prelude.{option_map}
 use Rattle.std.proofs.lemmas.List.{with_items_is}
 use Rattle.frame_codec.specs.declared.frames.Request.{Request}

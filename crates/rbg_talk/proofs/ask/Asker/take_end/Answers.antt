@@ -1,4 +1,4 @@
-use Rattle.std.proofs.Common.{◌≡◌, ◌++◌, ◌∷◌, [], ℕ, ◌+◌, sym, subst, arith}
+use Rattle.std.proofs.Common.{◌++◌, ◌∷◌, [], ℕ, ◌+◌, sym, subst, arith}
 use Rattle.rbg_talk.specs.Asker.{line_of, Stands}
 use Rattle.rbg_talk.proofs.Lining.{passed_goes, ended_goes, listed_short}
 use Rattle.rbg_talk.proofs.ask.Asker.take_end.Goals as goal

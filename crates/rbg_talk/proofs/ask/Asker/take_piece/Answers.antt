@@ -1,5 +1,4 @@
-use Rattle.std.proofs.Common.{◌≡◌, ◌<◌, ◌∙◌, ◌∷◌, ◌++◌, [], List, ℕ, ◌+◌, take, drop, get_or, length, sym, refl, ap, subst, arith, append-nil}
-use Rattle.std.specs.declared.option.Option.{Option}
+use Rattle.std.proofs.Common.{◌∙◌, ◌++◌, List, ℕ, ◌+◌, take, drop, sym, refl, subst, arith, append-nil}
 use Rattle.rbg_talk.specs.Causes.{HasWriteCause}
 use Rattle.rbg_talk.specs.Asker.{StandsAt, Stops}
 use Rattle.rbg_talk.proofs.Pieces.{next_taken, all_taken}

@@ -1,5 +1,4 @@
-use Rattle.std.proofs.Common.{◌≡◌, ◌<◌, ◌∙◌, sym, refl, length, false, arith, eqb-true, eqb→eq}
-use Rattle.std.specs.Prelude.{◌==◌}
+use Rattle.std.proofs.Common.{◌<◌, sym, refl, length, arith}
 use Rattle.rbg_talk.specs.Lines.{words_in}
 use Rattle.rbg_talk.specs.Calls.{no_options, with_options}
 use Rattle.rbg_talk.specs.Parsed.{options_of}

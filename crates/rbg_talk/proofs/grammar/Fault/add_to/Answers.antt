@@ -1,4 +1,4 @@
-use Rattle.std.proofs.Common.{◌∙◌, ap, sym, append_assoc, List, ℕ, ◌++◌, subst}
+use Rattle.std.proofs.Common.{◌∙◌, ap, sym, append_assoc, List, ℕ, ◌++◌}
 use Rattle.std.specs.Prelude.{codes}
 use Rattle.rbg_talk.specs.Statuses.{fault_text, option_text}
 use Rattle.rbg_talk.specs.declared.grammar.Fault.{Fault}

@@ -1,5 +1,4 @@
-use Rattle.std.proofs.Common.{arith}
-use Rattle.rbg_talk.proofs.Telling.{ends_cut, ends_done, ends_refused}
+use Rattle.rbg_talk.proofs.Telling.{ends_cut}
 use Rattle.rbg_talk.proofs.tell.Teller.finish.Goals as goal
 
 pub returns-then-self-clause-ends : goal.returns-then-self-clause-ends

@@ -1,4 +1,4 @@
-use Rattle.std.proofs.Common.{◌≡◌, ◌<◌, ◌∙◌, ◌∷◌, ◌++◌, [], List, ℕ, ◌+◌, take, sym, refl, ap, subst, arith}
+use Rattle.std.proofs.Common.{◌≡◌, ◌<◌, ◌∙◌, ◌∷◌, ◌++◌, [], ◌+◌, take, refl, ap, arith}
 use Rattle.std.proofs.lemmas.List.{with_items_is}
 use Rattle.rbg_talk.proofs.Telling.{go_more, go_head, whole_head, go_payload, whole_payload, stops_bad, reply_ended, more_string}
 use Rattle.rbg_talk.proofs.tell.Teller.take.Goals as goal

@@ -1,8 +1,8 @@
-use Rattle.std.proofs.Common.{◌≡◌, ◌<◌, ◌∙◌, [], ℕ, take, length, refl, sym, subst, arith, length-take}
+use Rattle.std.proofs.Common.{◌≡◌, ◌<◌, ◌∙◌, [], ℕ, take, length, refl, subst, arith, length-take}
 use Rattle.rbg_talk.specs.declared.way.Way.{Way}
 use Rattle.rbg_talk.specs.declared.status.Status.TheVariants.{ReadFault, Quota}
 use Rattle.rbg_bytes.specs.Streams.{Rose}
-use Rattle.rbg_talk.specs.Causes.{HasReadCause, HasWriteCause}
+use Rattle.rbg_talk.specs.Causes.{HasWriteCause}
 use Rattle.rbg_talk.proofs.Causing.{own_read, tell_read, tell_write}
 use Rattle.rbg_talk.proofs.Telling.{Told, taken_none, taken_more, told_failed, told_ended, told_stopped, told_quota}
 use Rattle.rbg_talk.proofs.tell.Teller.tell.Goals as goal
