@@ -198,6 +198,25 @@ fn in_time<R: Wait>(
     Ok(Told { reply, out })
 }
 
+// Makes a call in one of these ways.
+fn asked<R: Wait>(
+    rt: &R,
+    alloc: Global,
+    tree: &SharedTree<Faulty>,
+    pass: &mut TreePass<Faulty>,
+    waits: bool,
+    call: Call,
+    string: &str,
+) -> Result<Told, Fail>
+    requires pass { IsPassOf tree.now pass.old }
+    ensures pass { IsPassOf tree.entry.now pass.new }
+{
+    match waits {
+        false => at_once(alloc, tree, pass, call, string),
+        true => in_time(rt, alloc, tree, pass, call, string),
+    }
+}
+
 // Makes a call on the one-thread tree.
 fn solo(
     alloc: Global,
@@ -236,27 +255,21 @@ fn one_thread(alloc: Global, plan: TreePlan) -> Result<SoloTree<Faulty>, Fail> {
     }
 }
 
-// The first call, counted from 1, that the shared tree answers otherwise than the one-thread tree or than its row says, or 0. Two passes make
-// the calls in turns, of which the first never waits.
+// The first call, counted from 1, that the shared tree answers otherwise than the one-thread tree or than its row says, or 0.
 fn first_other<R: Wait>(
     rt: &R,
     alloc: Global,
     tree: &SharedTree<Faulty>,
-    first: &mut TreePass<Faulty>,
-    second: &mut TreePass<Faulty>,
+    pass: &mut TreePass<Faulty>,
+    waits: bool,
     one: &mut SoloTree<Faulty>,
 ) -> Result<usize, Fail>
-    requires first { IsPassOf tree.now first.old }
-    requires second { IsPassOf tree.now second.old }
+    requires pass { IsPassOf tree.now pass.old }
 {
     for i in 0..CALLS.len() {
         let (kind, named, count, strength, pr, string, code) = CALLS[i];
         let call = call_of(kind, named, count, strength, pr);
-        let got = if i % 2 == 0 {
-            at_once(alloc, tree, first, call, string)?
-        } else {
-            in_time(rt, alloc, tree, second, call, string)?
-        };
+        let got = asked(rt, alloc, tree, pass, waits, call, string)?;
         let want = solo(alloc, one, call, string)?;
         let same = got.reply == want.reply && got.out.as_slice() == want.out.as_slice();
         if got.reply.code != code || !same {
@@ -266,15 +279,19 @@ fn first_other<R: Wait>(
     Ok(0)
 }
 
-#[test]
+// Makes all calls on a tree of one caller's pass and on the one-thread tree.
 #[tactic(auto, using(crate::proofs::Ready::passes_of))]
+fn first_other_of<R: Wait>(rt: &R, alloc: Global, waits: bool) -> Result<usize, Fail> {
+    let (tree, mut passes) = shared(alloc, read(alloc, KINDS)?, sources(alloc)?, 1)?;
+    let mut pass = last_pass(&tree, &mut passes)?;
+    let mut one = one_thread(alloc, read(alloc, KINDS)?)?;
+    first_other(rt, alloc, &tree, &mut pass, waits, &mut one)
+}
+
+#[test]
 fn each_kind_of_call_is_answered_as_by_one_thread(rt: HostRuntime) -> Result<(), Fail> {
     let alloc = rt.alloc();
-    let (tree, mut passes) = shared(alloc, read(alloc, KINDS)?, sources(alloc)?, 2)?;
-    let mut second = last_pass(&tree, &mut passes)?;
-    let mut first = last_pass(&tree, &mut passes)?;
-    let mut one = one_thread(alloc, read(alloc, KINDS)?)?;
-    let other = first_other(&rt, alloc, &tree, &mut first, &mut second, &mut one)?;
-    assert_eq!(rt; other, 0);
+    assert_eq!(rt; first_other_of(&rt, alloc, false)?, 0);
+    assert_eq!(rt; first_other_of(&rt, alloc, true)?, 0);
     Ok(())
 }

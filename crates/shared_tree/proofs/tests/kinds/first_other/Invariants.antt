@@ -2,4 +2,4 @@ use Rattle.shared_tree.specs.Passes.{IsPassOf}
 use Rattle.shared_tree.proofs.tests.kinds.first_other.Given as goal
 
 abbrev pub invariant-loop-i : goal.invariant-loop-i
-invariant-loop-i g l = IsPassOf l.tree l.first × IsPassOf l.tree l.second
+invariant-loop-i g l = IsPassOf l.tree l.pass
