@@ -8,7 +8,7 @@ use Rattle.toml.specs.Data.{Members, no_members, member}
 
 -- one of the keys
 abbrev pub is_key : List (List ℕ) → List ℕ → Bool
-is_key keys k = list_any (bytes_eq k) keys
+is_key keys k = list_any (λ known. bytes_eq known k) keys
 
 -- each key of the table is one of these
 abbrev pub has_only : List (List ℕ) → Members → Bool

@@ -18,26 +18,20 @@ fn is_known(key: &str, level: Level) -> bool
     ensures { result ≡ is_key (known_keys level) key.now }
 {
     match level {
-        Level::Top => key == "version" || key == "opening" || key == "source" || key == "node",
-        Level::Source(_) => {
-            key == "samples"
-                || key == "num"
-                || key == "den"
-                || key == "binary"
-                || key == "rct"
-                || key == "rct_a"
-                || key == "apt"
-                || key == "startup"
-                || key == "conditioner"
-        }
-        Level::Node(_) => {
-            key == "kind"
-                || key == "drbg"
-                || key == "interval"
-                || key == "source"
-                || key == "parent"
-                || key == "seed"
-        }
+        Level::Top => ["version", "opening", "source", "node"].contains(&key),
+        Level::Source(_) => [
+            "samples",
+            "num",
+            "den",
+            "binary",
+            "rct",
+            "rct_a",
+            "apt",
+            "startup",
+            "conditioner",
+        ]
+        .contains(&key),
+        Level::Node(_) => ["kind", "drbg", "interval", "source", "parent", "seed"].contains(&key),
     }
 }
 

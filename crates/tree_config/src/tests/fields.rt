@@ -1,5 +1,8 @@
 // Each field and each way in which it can be wrong, the ends of its range, and the order of the fields.
-use crate::tests::texts::{NODE_WITH_A_CHILD, first_miss, first_slip, outcome};
+use crate::tests::texts::{
+    NODE_WITH_A_CHILD, comes_to, cut, fault_at, first_miss, first_slip, replaced,
+};
+use std::alloc::Global;
 use std::test::Fail;
 
 const TOP: &str = "version = 1; ->  : Version
@@ -133,48 +136,60 @@ HERE -> [node] : Nodes
 HERE -> node = [{}, 1] : Nodes
 HERE -> source = [] : Nodes";
 
+const NO_SOURCES: &str = "version = 1
+node = [{ kind = \"rbg2\", drbg = \"ctr-aes-128\", HERE }]";
+
 #[test]
 fn each_field_and_its_range(rt: HostRuntime) -> Result<(), Fail> {
     let alloc = rt.alloc();
-    assert_eq!(rt; first_miss(alloc, NODE_WITH_A_CHILD, "Top", TOP)?, "");
-    assert_eq!(rt;
-        first_miss(alloc, "version = 1\nHERE", "Top", NO_NODES)?,
-        ""
-    );
-    assert_eq!(rt;
-        first_miss(alloc, NODE_WITH_A_CHILD, "Source(0)", SOURCE)?,
-        ""
-    );
-    assert_eq!(rt; first_miss(alloc, NODE_WITH_A_CHILD, "Node(0)", DRAWN)?, "");
-    assert_eq!(rt; first_miss(alloc, NODE_WITH_A_CHILD, "Node(1)", CHILD)?, "");
-    // no source is in a file without sources
-    let text = "version = 1\nnode = [{ kind = \"rbg2\", drbg = \"ctr-aes-128\", source = 0 }]";
-    let got = outcome(alloc, text.as_bytes())?;
-    assert_eq!(rt; got.as_str(), "BadField { place: Node(0), field: Source }");
+    for (text, place, table) in [
+        (NODE_WITH_A_CHILD, "Top", TOP),
+        ("version = 1\nHERE", "Top", NO_NODES),
+        (NODE_WITH_A_CHILD, "Source(0)", SOURCE),
+        (NODE_WITH_A_CHILD, "Node(0)", DRAWN),
+        (NODE_WITH_A_CHILD, "Node(1)", CHILD),
+        // no source is in a file without sources
+        (NO_SOURCES, "Node(0)", "HERE -> source = 0 : Source"),
+    ] {
+        assert_eq!(rt; first_miss(alloc, text, place, table)?, "");
+    }
     Ok(())
+}
+
+const SEED: &str = "version = 1
+[[node]]
+kind = \"rbg1\"
+drbg = \"ctr-aes-128\"
+seed = \"NAME\"";
+
+// Whether a text in which the name is so many letters has this field at fault, or none for a `-`.
+fn with_name(
+    alloc: Global,
+    (text, place): (&str, &str),
+    (letter, count): (&str, usize),
+    field: &str,
+) -> Result<bool, Fail> {
+    let name = letter.repeat(alloc, count)?;
+    let text = replaced(alloc, text, "NAME", name.as_str())?;
+    let want = fault_at(alloc, place, field)?;
+    comes_to(alloc, text.as_bytes(), want.as_str())
 }
 
 #[test]
 fn names_have_1_to_255_bytes(rt: HostRuntime) -> Result<(), Fail> {
     let alloc = rt.alloc();
+    let samples = replaced(alloc, NODE_WITH_A_CHILD, "ramp", "NAME")?;
+    let seed = (SEED, "Node(0)");
+    let samples = (samples.as_str(), "Source(0)");
     // a letter of one byte and one of two bytes
-    for (letter, count, field) in [
-        ("a", 255, "-"),
-        ("a", 256, "Seed"),
-        ("é", 127, "-"),
-        ("é", 128, "Seed"),
+    for (name, seeds, sources) in [
+        (("a", 255), "-", "-"),
+        (("a", 256), "Seed", "Samples"),
+        (("é", 127), "-", "-"),
+        (("é", 128), "Seed", "Samples"),
     ] {
-        let name = letter.repeat(alloc, count)?;
-        let row = format!(in alloc; "NAME -> {} : {field}", name.as_str())?;
-        let node =
-            "version = 1\n[[node]]\nkind = \"rbg1\"\ndrbg = \"ctr-aes-128\"\nseed = \"NAME\"";
-        assert_eq!(rt; first_miss(alloc, node, "Node(0)", row.as_str())?, "");
-        let field = if field == "-" { field } else { "Samples" };
-        let row = format!(in alloc; "ramp -> {} : {field}", name.as_str())?;
-        assert_eq!(rt;
-            first_miss(alloc, NODE_WITH_A_CHILD, "Source(0)", row.as_str())?,
-            ""
-        );
+        assert!(rt; with_name(alloc, seed, name, seeds)?);
+        assert!(rt; with_name(alloc, samples, name, sources)?);
     }
     Ok(())
 }
@@ -204,46 +219,40 @@ parent = -1 | parent = 0 | Parent
 seed = \"s\" | # | Seed
 x = 1 | # | Unknown";
 
-// Whole places in their order: `S` stands for a right source and `N` for a right node, a child of itself.
+// Whole places in their order, and what they come to. A right node is a child of itself.
 const PLACES: &str =
     "version = 1;[[source]];S[[source]];[[node]];[[node]] : BadField { place: Source(1), field: Samples }
 version = 1;[[source]];S[[node]];[[node]];N : BadField { place: Node(0), field: NodeKind }
 version = 1;[[node]];N[[node]] : BadField { place: Node(1), field: NodeKind }
 version = 1;[[node]];N : Cycle { node: 0 }";
 
+// The text of a row: `S` stands for a right source, `N` for a right node, and `;` for the end of a line.
+fn places(alloc: Global, row: &str) -> Result<String, Fail> {
+    let source = "samples = \"ramp\"\nnum = 8\nden = 1\nrct = 4\napt = 257\n";
+    let node = "kind = \"child\"\ndrbg = \"hmac-sha-256\"\nparent = 0\n";
+    let text = replaced(alloc, row, "S", source)?;
+    let text = replaced(alloc, text.as_str(), "N", node)?;
+    replaced(alloc, text.as_str(), ";", "\n")
+}
+
 #[test]
 fn the_first_of_several_fields(rt: HostRuntime) -> Result<(), Fail> {
     let alloc = rt.alloc();
-    assert_eq!(rt; first_slip(alloc, "", "Top", TOP_LADDER)?, "");
-    assert_eq!(rt;
-        first_slip(
-            alloc,
+    for (head, place, ladder) in [
+        ("", "Top", TOP_LADDER),
+        (
             "version = 1\nnode = [{}]\n[[source]]\n",
             "Source(0)",
-            SOURCE_LADDER
-        )?,
-        ""
-    );
-    assert_eq!(rt;
-        first_slip(alloc, "version = 1\n[[node]]\n", "Node(0)", NODE_LADDER)?,
-        ""
-    );
+            SOURCE_LADDER,
+        ),
+        ("version = 1\n[[node]]\n", "Node(0)", NODE_LADDER),
+    ] {
+        assert_eq!(rt; first_slip(alloc, head, place, ladder)?, "");
+    }
     for row in PLACES.lines() {
-        if let Some((text, want)) = row.split_once(" : ") {
-            let text = text.replace(
-                alloc,
-                "S",
-                "samples = \"ramp\"\nnum = 8\nden = 1\nrct = 4\napt = 257\n",
-            )?;
-            let text = text.replace(
-                alloc,
-                "N",
-                "kind = \"child\"\ndrbg = \"hmac-sha-256\"\nparent = 0\n",
-            )?;
-            let text = text.replace(alloc, ";", "\n")?;
-            let got = outcome(alloc, text.as_bytes())?;
-            assert_eq!(rt; got.as_str(), want);
-        }
+        let (row, want) = cut(row, " : ")?;
+        let text = places(alloc, row)?;
+        assert!(rt; comes_to(alloc, text.as_bytes(), want)?, "{row}");
     }
     Ok(())
 }

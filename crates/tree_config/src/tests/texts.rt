@@ -107,33 +107,55 @@ pub fn outcome(alloc: Global, text: &[u8]) -> Result<String, Fail> {
     }
 }
 
-/// The text with a change, `FROM -> TO`, in which a `;` stands for the end of a line.
-fn changed(alloc: Global, text: &str, change: &str) -> Result<String, Fail> {
-    match change.split_once(" -> ") {
-        Some((from, to)) => {
-            let from = from.replace(alloc, ";", "\n")?;
-            let to = to.replace(alloc, ";", "\n")?;
-            Ok(text.replace(alloc, &from, &to)?)
-        }
-        None => Err(Fail::from("a row without a change")),
+/// Whether bytes come to this.
+pub fn comes_to(alloc: Global, text: &[u8], want: &str) -> Result<bool, Fail> {
+    let got = outcome(alloc, text)?;
+    Ok(got.as_str() == want)
+}
+
+/// What is printed where bytes are refused.
+fn printed(alloc: Global, text: &[u8]) -> Result<String, Fail> {
+    match TreePlan::read(alloc, text) {
+        Ok(_) => Ok(String::from_str(alloc, "plan")?),
+        Err(refusal) => Ok(format!(in alloc; "{refusal}")?),
     }
+}
+
+/// The two parts of a row, before and behind the mark.
+pub fn cut<'a>(row: &'a str, mark: &str) -> Result<(&'a str, &'a str), Fail> {
+    match row.split_once(mark) {
+        Some(parts) => Ok(parts),
+        None => Err(Fail::from("a row without its mark")),
+    }
+}
+
+/// The text with another word in the place of each of these.
+pub fn replaced(alloc: Global, text: &str, from: &str, to: &str) -> Result<String, Fail> {
+    Ok(text.replace(alloc, from, to)?)
+}
+
+// The text with a change, `FROM -> TO`, in which a `;` stands for the end of a line.
+fn changed(alloc: Global, text: &str, change: &str) -> Result<String, Fail> {
+    let (from, to) = cut(change, " -> ")?;
+    let from = replaced(alloc, from, ";", "\n")?;
+    let to = replaced(alloc, to, ";", "\n")?;
+    replaced(alloc, text, &from, &to)
+}
+
+/// What a text comes to of which this field of this place is at fault, or none for a `-`.
+pub fn fault_at(alloc: Global, place: &str, field: &str) -> Result<String, Fail> {
+    if field == "-" {
+        return Ok(String::from_str(alloc, "plan")?);
+    }
+    Ok(format!(in alloc; "BadField {{ place: {place}, field: {field} }}")?)
 }
 
 // Whether a row holds: a change of the text, ` : `, and the field of the place that is then at fault, or a `-` for none.
 fn holds(alloc: Global, text: &str, place: &str, row: &str) -> Result<bool, Fail> {
-    match row.split_once(" : ") {
-        Some((change, field)) => {
-            let text = changed(alloc, text, change)?;
-            let want = if field == "-" {
-                String::from_str(alloc, "plan")?
-            } else {
-                format!(in alloc; "BadField {{ place: {place}, field: {field} }}")?
-            };
-            let got = outcome(alloc, text.as_bytes())?;
-            Ok(got.as_str() == want.as_str())
-        }
-        None => Ok(false),
-    }
+    let (change, field) = cut(row, " : ")?;
+    let text = changed(alloc, text, change)?;
+    let want = fault_at(alloc, place, field)?;
+    comes_to(alloc, text.as_bytes(), want.as_str())
 }
 
 /// The first row of a table that does not hold, each row being a line of it; empty where all hold.
@@ -151,40 +173,47 @@ pub fn first_miss<'a>(
     Ok("")
 }
 
+// Whether a row prints as it says: a change of the text, ` : `, and what is printed then.
+fn prints(alloc: Global, text: &str, row: &str) -> Result<bool, Fail> {
+    let (change, want) = cut(row, " : ")?;
+    let text = changed(alloc, text, change)?;
+    let got = printed(alloc, text.as_bytes())?;
+    Ok(got.as_str() == want)
+}
+
 /// The first row of a table whose change of the text does not print as the row says; empty where all do.
 pub fn first_misprint<'a>(alloc: Global, text: &str, table: &'a str) -> Result<&'a str, Fail> {
     for row in table.lines() {
-        match row.split_once(" : ") {
-            Some((change, want)) => {
-                let text = changed(alloc, text, change)?;
-                match TreePlan::read(alloc, text.as_bytes()) {
-                    Ok(_) => return Ok(row),
-                    Err(refusal) => {
-                        let got = format!(in alloc; "{refusal}")?;
-                        if got.as_str() != want {
-                            return Ok(row);
-                        }
-                    }
-                }
-            }
-            None => return Ok(row),
+        if !prints(alloc, text, row)? {
+            return Ok(row);
         }
     }
     Ok("")
 }
 
-// A text of which the first lines are right and the others wrong. Each row of the ladder is `WRONG | RIGHT | FIELD`.
-fn rung(alloc: Global, head: &str, ladder: &str, right: usize) -> Result<String, Fail> {
+// The line of a rung, `WRONG | RIGHT | FIELD`.
+fn rung_line(row: &str, right: bool) -> Result<&str, Fail> {
+    let (wrong, rest) = cut(row, " | ")?;
+    let (good, _) = cut(rest, " | ")?;
+    Ok(if right { good } else { wrong })
+}
+
+// A text of which the first lines are right and the others wrong.
+fn climbed(alloc: Global, head: &str, ladder: &str, right: usize) -> Result<String, Fail> {
     let mut text = String::from_str(alloc, head)?;
     for (i, row) in ladder.lines().enumerate() {
-        if let Some((wrong, rest)) = row.split_once(" | ") {
-            if let Some((good, _)) = rest.split_once(" | ") {
-                text.push_str(if i < right { good } else { wrong })?;
-                text.push_str("\n")?;
-            }
-        }
+        text.push_str(rung_line(row, i < right)?)?;
+        text.push_str("\n")?;
     }
     Ok(text)
+}
+
+// Whether the field of a rung is named where the rows before it are right, and it and those behind it are wrong.
+fn named(alloc: Global, text: &str, place: &str, row: &str) -> Result<bool, Fail> {
+    let (_, rest) = cut(row, " | ")?;
+    let (_, field) = cut(rest, " | ")?;
+    let want = fault_at(alloc, place, field)?;
+    comes_to(alloc, text.as_bytes(), want.as_str())
 }
 
 /// The first row of a ladder whose field is not named where the rows before it are right, and it and those behind it are wrong.
@@ -195,16 +224,9 @@ pub fn first_slip<'a>(
     ladder: &'a str,
 ) -> Result<&'a str, Fail> {
     for (i, row) in ladder.lines().enumerate() {
-        match row.rsplit_once(" | ") {
-            Some((_, field)) => {
-                let text = rung(alloc, head, ladder, i)?;
-                let got = outcome(alloc, text.as_bytes())?;
-                let want = format!(in alloc; "BadField {{ place: {place}, field: {field} }}")?;
-                if got.as_str() != want.as_str() {
-                    return Ok(row);
-                }
-            }
-            None => return Ok(row),
+        let text = climbed(alloc, head, ladder, i)?;
+        if !named(alloc, text.as_str(), place, row)? {
+            return Ok(row);
         }
     }
     Ok("")

@@ -1,5 +1,5 @@
 // Nodes that make a tree and those that do not, the numbers of entries, and texts that are no TOML.
-use crate::tests::texts::{NODE_WITH_A_CHILD, outcome};
+use crate::tests::texts::{NODE_WITH_A_CHILD, comes_to, cut};
 use std::alloc::Global;
 use std::test::Fail;
 
@@ -22,31 +22,31 @@ const NODES: &str = "-h : plan
 -h 0w 1m 1h : StrengthRises { node: 2, own: 192, parent: 128 }
 -h 0m 1w 0s : plan";
 
+// The text of a node.
+fn node_text(alloc: Global, node: &str) -> Result<String, Fail> {
+    let kind = if node.starts_with("-") {
+        "kind = \"rbg1\"\nseed = \"s\""
+    } else {
+        "kind = \"child\"\nparent = "
+    };
+    let drbg = if node.ends_with("h") {
+        "hmac-sha-256"
+    } else if node.ends_with("s") {
+        "hmac-sha-512"
+    } else if node.ends_with("m") {
+        "ctr-aes-192"
+    } else {
+        "ctr-aes-128"
+    };
+    let parent = node.trim_matches(|c: char| !c.is_ascii_digit());
+    Ok(format!(in alloc; "[[node]]\n{kind}{parent}\ndrbg = \"{drbg}\"\n")?)
+}
+
 // The text of a row's nodes.
 fn nodes_text(alloc: Global, nodes: &str) -> Result<String, Fail> {
     let mut text = String::from_str(alloc, "version = 1\n")?;
     for node in nodes.split_whitespace() {
-        let kind = if node.starts_with("-") {
-            "kind = \"rbg1\"\nseed = \"s\"\n"
-        } else {
-            "kind = \"child\"\nparent = "
-        };
-        let drbg = if node.ends_with("h") {
-            "hmac-sha-256"
-        } else if node.ends_with("s") {
-            "hmac-sha-512"
-        } else if node.ends_with("m") {
-            "ctr-aes-192"
-        } else {
-            "ctr-aes-128"
-        };
-        let parent = node.trim_matches(|c: char| !c.is_ascii_digit());
-        text.push_str("[[node]]\n")?;
-        text.push_str(kind)?;
-        text.push_str(parent)?;
-        text.push_str("\ndrbg = \"")?;
-        text.push_str(drbg)?;
-        text.push_str("\"\n")?;
+        text.push_str(&node_text(alloc, node)?)?;
     }
     Ok(text)
 }
@@ -55,25 +55,22 @@ fn nodes_text(alloc: Global, nodes: &str) -> Result<String, Fail> {
 fn the_first_fault_of_nodes(rt: HostRuntime) -> Result<(), Fail> {
     let alloc = rt.alloc();
     for row in NODES.lines() {
-        if let Some((nodes, want)) = row.split_once(" : ") {
-            let text = nodes_text(alloc, nodes)?;
-            let got = outcome(alloc, text.as_bytes())?;
-            assert_eq!(rt; got.as_str(), want, "{nodes}");
-        }
+        let (nodes, want) = cut(row, " : ")?;
+        let text = nodes_text(alloc, nodes)?;
+        assert!(rt; comes_to(alloc, text.as_bytes(), want)?, "{nodes}");
     }
     Ok(())
 }
 
-// Each row is a number of sources, a number of nodes, and what a text with so many empty tables comes to.
+// A text with so many empty tables of each.
 fn counted(alloc: Global, more: &str, sources: usize, nodes: usize) -> Result<String, Fail> {
     let sources = "{},".repeat(alloc, sources)?;
     let nodes = "{},".repeat(alloc, nodes)?;
-    let text = format!(in alloc;
+    Ok(format!(in alloc;
         "version = 1\n{more}\nsource = [{}]\nnode = [{}]\n",
         sources.as_str(),
         nodes.as_str()
-    )?;
-    outcome(alloc, text.as_bytes())
+    )?)
 }
 
 #[test]
@@ -86,8 +83,8 @@ fn numbers_of_sources_and_nodes(rt: HostRuntime) -> Result<(), Fail> {
         ("", 4, 63, "BadField { place: Source(0), field: Samples }"),
         ("", 0, 63, "BadField { place: Node(0), field: NodeKind }"),
     ] {
-        let got = counted(alloc, more, sources, nodes)?;
-        assert_eq!(rt; got.as_str(), want);
+        let text = counted(alloc, more, sources, nodes)?;
+        assert!(rt; comes_to(alloc, text.as_bytes(), want)?, "{want}");
     }
     Ok(())
 }
@@ -112,25 +109,34 @@ version
 ---
 version = \"1";
 
+// A configuration with a comment behind it, so many bytes in all.
+fn filled(alloc: Global, len: usize) -> Result<String, Fail> {
+    let filling = "#".repeat(alloc, len.saturating_sub(NODE_WITH_A_CHILD.len()))?;
+    Ok(format!(in alloc; "{NODE_WITH_A_CHILD}{}", filling.as_str())?)
+}
+
 #[test]
-fn lengths_and_texts_that_are_not_toml(rt: HostRuntime) -> Result<(), Fail> {
+fn a_text_has_at_most_65_536_bytes(rt: HostRuntime) -> Result<(), Fail> {
     let alloc = rt.alloc();
     let large = "TooLarge { limit: 65536 }";
-    let filling = "#".repeat(alloc, 65537 - NODE_WITH_A_CHILD.len())?;
-    let text = format!(in alloc; "{NODE_WITH_A_CHILD}{}", filling.as_str())?;
-    assert_eq!(rt; text.len(), 65537);
-    let got = outcome(alloc, text.as_bytes())?;
-    assert_eq!(rt; got.as_str(), large);
-    let got = outcome(alloc, text.as_bytes().get(..65536).unwrap_or(&[]))?;
-    assert_eq!(rt; got.as_str(), "plan");
+    let text = filled(alloc, 65536)?;
+    assert_eq!(rt; text.len(), 65536);
+    assert!(rt; comes_to(alloc, text.as_bytes(), "plan")?);
+    let text = filled(alloc, 65537)?;
+    assert!(rt; comes_to(alloc, text.as_bytes(), large)?);
+    // the length comes before what the bytes are
     let no_text = vec![in alloc; 0xffu8; 65537]?;
-    let got = outcome(alloc, &no_text)?;
-    assert_eq!(rt; got.as_str(), large);
-    let got = outcome(alloc, no_text.get(..65536).unwrap_or(&[]))?;
-    assert_eq!(rt; got.as_str(), "BadToml");
+    assert!(rt; comes_to(alloc, &no_text, large)?);
+    let no_text = vec![in alloc; 0xffu8; 65536]?;
+    assert!(rt; comes_to(alloc, &no_text, "BadToml")?);
+    Ok(())
+}
+
+#[test]
+fn texts_that_are_not_toml(rt: HostRuntime) -> Result<(), Fail> {
+    let alloc = rt.alloc();
     for text in NO_TOML.split("---\n") {
-        let got = outcome(alloc, text.as_bytes())?;
-        assert_eq!(rt; got.as_str(), "BadToml", "{text}");
+        assert!(rt; comes_to(alloc, text.as_bytes(), "BadToml")?, "{text}");
     }
     // an integer at the end of 64 bits, a text without a key, and one that begins with a byte order mark
     for text in [
@@ -138,12 +144,8 @@ fn lengths_and_texts_that_are_not_toml(rt: HostRuntime) -> Result<(), Fail> {
         "",
         "\u{feff}version = 2",
     ] {
-        let got = outcome(alloc, text.as_bytes())?;
-        assert_eq!(rt;
-            got.as_str(),
-            "BadField { place: Top, field: Version }",
-            "{text}"
-        );
+        let want = "BadField { place: Top, field: Version }";
+        assert!(rt; comes_to(alloc, text.as_bytes(), want)?, "{text}");
     }
     Ok(())
 }
